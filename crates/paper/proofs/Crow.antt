@@ -1,0 +1,97 @@
+-- The crow distance is the largest whole number whose square is at most 256 × (dx² + dy²); between different places it is 16 to 23,147.
+use Prim.Native.Nat.{ℕ, zero, suc, _+_, _*_, _-_, _≤_, _<_}
+use native.Mathlib.Omega.{arith}
+use native.Mathlib.Nat.{mul-le-mul, mul-le-mul-left, mul-assoc, mul-left-comm, mul-add, add-mul, suc-mul}
+use native.Mathlib.Decide.{decLt, ℕ-discrete}
+use mathlib.Core.Path.{_≡_, refl, sym, ap, _∙_}
+use mathlib.Core.Bool.{Bool, true, false}
+use lib.Dec.{leb}
+use borrow.Author.Tests.{leb-true, leb-false}
+use Rattle.paper.specs.Sizes.{gridSide, crowUnit, crowScale, crowMost}
+use Rattle.paper.specs.Map.{Map}
+use Rattle.paper.specs.Crow.{crow, crowAcross, gap, rootFrom}
+use Rattle.paper.proofs.LaidOut.{LaidOut}
+
+-- r is the largest number whose square is at most n
+pub record Root (n r : ℕ) : Type 0 where
+  pub square : r * r ≤ n
+  pub next : n < suc r * suc r
+
+root-below : {n r r′ : ℕ} → Root n r → Root n r′ → r < r′ → ⊥
+root-below {r} {r′} R S p = omega (arith, R .next, S .square, mul-le-mul p p)
+
+pub root-one : {n r r′ : ℕ} → Root n r → Root n r′ → r ≡ r′
+root-one {r} {r′} R S = go (decLt r r′) (decLt r′ r)
+  where
+    go : Dec (r < r′) → Dec (r′ < r) → r ≡ r′
+    go (yes p) q = absurd (root-below R S p)
+    go (no p) (yes q) = absurd (root-below S R q)
+    go (no p) (no q) = omega arith
+
+pub root-law : (r n : ℕ) → n < suc r * suc r → Root n (rootFrom r n)
+unfolding rootFrom
+root-law zero n h = record { square = omega arith; next = h }
+root-law (suc r) n h = go (leb (suc r * suc r) n) refl (root-law r n)
+  where
+    go : (b : Bool) → leb (suc r * suc r) n ≡ b → (n < suc r * suc r → Root n (rootFrom r n)) → Root n (elim b [ true ↦ suc r | false ↦ rootFrom r n ])
+    go true e f = record { square = leb-true _ _ e; next = h }
+    go false e f = f (leb-false _ _ e)
+
+squares : (a b : ℕ) → a * a + b * b ≤ (a + b) * (a + b)
+squares a b = rw (add-mul a b (a + b), mul-add a a b, mul-add b a b) (omega arith)
+
+-- the search for the root begins high enough
+top : (k a b : ℕ) → k * k * (a * a + b * b) < suc (k * (a + b)) * suc (k * (a + b))
+top k a b =
+    let s : ℕ = a + b in
+    let t : ℕ = k * s in
+    let e : t * t ≡ k * k * (s * s) = mul-assoc k s (k * s) ∙ ap (λ (x : ℕ). k * x) (mul-left-comm s k s) ∙ sym (mul-assoc k k (s * s)) in
+    let l : k * k * (a * a + b * b) ≤ k * k * (s * s) = mul-le-mul-left (k * k) (squares a b) in
+    let n : t * t ≤ t * suc t = mul-le-mul-left t (omega arith) in
+    omega (arith, suc-mul t (suc t))
+
+pub crow-law : (dx dy : ℕ) → Root (crowScale * (dx * dx + dy * dy)) (crowAcross dx dy)
+unfolding crowAcross
+crow-law dx dy = root-law (crowUnit * (dx + dy)) (crowScale * (dx * dx + dy * dy)) (top crowUnit dx dy)
+
+pub gap-le : (a b n : ℕ) → a < suc n → b < suc n → gap a b ≤ n
+unfolding gap
+gap-le a b n p q = omega arith
+
+gap-some : (a b : ℕ) → (a ≡ b → ⊥) → 1 ≤ gap a b
+unfolding gap
+gap-some a b h = omega arith
+
+-- over gaps within the grid
+pub crow-most : (dx dy : ℕ) → dx ≤ gridSide - 1 → dy ≤ gridSide - 1 → crowAcross dx dy ≤ crowMost
+crow-most dx dy x y = go (decLt crowMost (crowAcross dx dy))
+  where
+    go : Dec (crowMost < crowAcross dx dy) → crowAcross dx dy ≤ crowMost
+    go (yes p) = absurd (omega (arith, crow-law dx dy .square, mul-le-mul p p, mul-le-mul x x, mul-le-mul y y))
+    go (no p) = omega arith
+
+module _ {m : Map} (L : LaidOut m) (u v : ℕ) (hu : u < m .places) (hv : v < m .places) where
+  abbrev dx : ℕ
+  dx = gap (m .x u) (m .x v)
+
+  abbrev dy : ℕ
+  dy = gap (m .y u) (m .y v)
+
+  pub crow-le : crow m u v ≤ crowMost
+  unfolding crow
+  crow-le = crow-most dx dy (gap-le (m .x u) (m .x v) (gridSide - 1) (L .xs u hu) (L .xs v hv)) (gap-le (m .y u) (m .y v) (gridSide - 1) (L .ys u hu) (L .ys v hv))
+
+  pub crow-ge : (u ≡ v → ⊥) → crowUnit ≤ crow m u v
+  unfolding crow
+  crow-ge ne = go (decLt (crow m u v) crowUnit)
+    where
+      -- they do not share a cell
+      some : Dec (m .x u ≡ m .x v) → Dec (m .y u ≡ m .y v) → Dec (u < v) → 1 ≤ dx * dx + dy * dy
+      some (no a) b l = omega (arith, mul-le-mul (gap-some _ _ a) (gap-some _ _ a))
+      some (yes a) (no b) l = omega (arith, mul-le-mul (gap-some _ _ b) (gap-some _ _ b))
+      some (yes a) (yes b) (yes l) = absurd (L .apart u v l hv a b)
+      some (yes a) (yes b) (no l) = absurd (L .apart v u (omega arith) hu (sym a) (sym b))
+
+      go : Dec (crow m u v < crowUnit) → crowUnit ≤ crow m u v
+      go (yes p) = absurd (omega (arith, crow-law dx dy .next, mul-le-mul p p, some (ℕ-discrete (m .x u) (m .x v)) (ℕ-discrete (m .y u) (m .y v)) (decLt u v)))
+      go (no p) = omega arith

@@ -1,0 +1,50 @@
+-- The ends that a true map gives hold the road distance.
+use Prim.Native.Nat.{ℕ, _*_, _^_, _≤_, _<_}
+use native.Mathlib.Omega.{arith}
+use native.Mathlib.Nat.{mul-le-mul}
+use mathlib.Core.Path.{_≡_, refl}
+use lib.Dec.{eqb}
+use borrow.Author.Tests.{eqb-true, eqb-false}
+use Rattle.paper.specs.Sizes.{walkLimit, crowMost}
+use Rattle.paper.specs.Map.{Map}
+use Rattle.paper.specs.Crow.{crow}
+use Rattle.paper.specs.Block.{blockOf}
+use Rattle.paper.specs.Road.{arrived, IsD}
+use Rattle.paper.specs.Truth.{Truth, Told}
+use Rattle.paper.proofs.LaidOut.{LaidOut}
+use Rattle.paper.specs.Trail.{Ends, between, endsBy}
+use Rattle.paper.proofs.Holds.{Holds, on-if}
+use Rattle.paper.proofs.Block.{block-of}
+use Rattle.paper.proofs.Crow.{crow-le}
+
+pub at-home : {m : Map} {v d : ℕ} → IsD m v v d → d ≡ 0
+at-home D = omega (arith, D .least 0 arrived)
+
+-- the ends e hold d, the road distance from u to v; at v itself they are equal
+pub record Right (u v d : ℕ) (e : Ends) : Type 0 where
+  pub low : e .low ≤ d
+  pub high : d ≤ e .high
+  pub home : u ≡ v → e .low ≡ e .high
+  pub small : e .high ≤ walkLimit
+
+module _ {m : Map} (L : LaidOut m) (T : Truth m) where
+  told-right : (u v d : ℕ) → u < m .places → v < m .places → IsD m u v d → (u ≡ v → ⊥) → Holds (Right u v d) (endsBy m u v (blockOf m u v))
+  told-right u v d hu hv D ne =
+      let w : Told m u v = T .told u v hu hv ne in
+      let b : ℕ = w .block in
+      let c : ℕ = crow m u v in
+      let r : m .high b ≤ 2 ^ 32 = omega (arith, L .ratios b (block-of m u v b (w .covered) .under)) in
+      let top : m .high b * c ≤ 2 ^ 32 * crowMost = mul-le-mul r (crow-le L u v hu hv) in
+      rw (w .covered) (record {
+        low = omega (arith, w .tells .low d D);
+        high = omega (arith, w .tells .high d D);
+        home = λ e. absurd (ne e);
+        small = omega arith;
+      })
+
+  pub between-right : (u v d : ℕ) → u < m .places → v < m .places → IsD m u v d → Holds (Right u v d) (between m u v)
+  unfolding between
+  between-right u v d hu hv D =
+      on-if (λ n. ⊥) (Right u v d) (eqb u v) _ _
+      (λ e. let z : d ≡ 0 = at-home (rw (eqb-true u v e) at D) in record { low = omega arith; high = omega arith; home = λ e′. refl; small = omega arith })
+      (λ e. told-right u v d hu hv D (eqb-false u v e))

@@ -1,0 +1,74 @@
+-- The paper's sheet to work by, and its marked table.
+use Prim.Native.Nat.{ℕ, _%_, _/_}
+use mathlib.Core.Path.{_≡_}
+use mathlib.Core.List.{List, [], _∷_}
+use Rattle.paper.specs.Served.{Served, served, andThen}
+use Rattle.paper.specs.Map.{Map, Offices}
+use Rattle.paper.specs.Sheet.{mapOf, officesOf}
+use Rattle.paper.specs.Cell.{cell}
+use Rattle.paper.specs.Crow.{crow}
+use Rattle.paper.specs.Road.{IsD}
+use Rattle.paper.specs.Trail.{Trail, start, refine}
+use Rattle.paper.specs.Listing.{Line, State, listing}
+
+-- the bytes of words below 65,536
+unfoldable pub bytes : List ℕ → List ℕ
+bytes [] = []
+bytes (w ∷ r) = w % 256 ∷ w / 256 ∷ 0 ∷ 0 ∷ bytes r
+
+unfoldable pub words : List ℕ
+words =
+    4 ∷ 0 ∷ 0 ∷ 3 ∷ 4 ∷ 6 ∷ 8 ∷ 0 ∷ 5 ∷
+    6 ∷ 0 ∷ 1 ∷ 6 ∷ 0 ∷ 3 ∷ 9 ∷ 1 ∷ 0 ∷ 6 ∷ 1 ∷ 2 ∷ 5 ∷ 2 ∷ 1 ∷ 5 ∷ 3 ∷ 0 ∷ 9 ∷
+    7 ∷
+    0 ∷ 32 ∷ 1 ∷ 1 ∷ 115 ∷ 116 ∷
+    0 ∷ 36 ∷ 1 ∷ 0 ∷ 76 ∷ 77 ∷
+    0 ∷ 128 ∷ 3 ∷ 0 ∷ 70 ∷ 71 ∷
+    1 ∷ 0 ∷ 3 ∷ 0 ∷ 76 ∷ 308 ∷
+    1 ∷ 128 ∷ 3 ∷ 1 ∷ 64 ∷ 64 ∷
+    2 ∷ 0 ∷ 10 ∷ 0 ∷ 64 ∷ 192 ∷
+    3 ∷ 0 ∷ 10 ∷ 0 ∷ 115 ∷ 308 ∷
+    3 ∷ 0 ∷ 3 ∷ 1 ∷ []
+
+unfoldable pub sheet : List ℕ
+unfolding bytes words
+sheet = bytes words
+
+-- the program's input: q and k, then the sheet
+unfoldable pub input : ℕ → ℕ → List ℕ
+unfolding bytes words
+input q k = bytes (q ∷ k ∷ words)
+
+abbrev pub map : Map
+map = mapOf sheet
+
+abbrev pub offices : Offices
+offices = officesOf sheet
+
+-- a first interval
+abbrev pub interval : ℕ → ℕ → ℕ → Served Trail
+interval via a b = served (record { via = via; walked = 0; low = a; high = b; stages = 0 })
+
+abbrev pub line : ℕ → ℕ → ℕ → ℕ → Line
+line n a b s = record { number = n; low = a; high = b; stages = s }
+
+-- what a question tells: the total of refinements, and the list
+pub record Outcome : Type 0 where
+  pub total : ℕ
+  pub lines : List Line
+
+abbrev pub outcome : Served State → Served Outcome
+outcome r = andThen r (λ st. served (record { total = st .total; lines = st .lines }))
+
+-- P1 to P10
+pub record MarkedTable : Type 0 where
+  pub p1 : (cell map 1 ≡ 37) × (cell map 2 ≡ 148) × (cell map 3 ≡ 34)
+  pub p2 : crow map 0 1 ≡ 80
+  pub p3 : crow map 1 3 ≡ 50
+  pub p4 : crow map 2 3 ≡ 107
+  pub p5 : IsD map 2 3 20
+  pub p6 : IsD map 0 2 11
+  pub p7 : (start map 2 (offices .stand 0) ≡ interval 2 10 30) × (start map 2 (offices .stand 1) ≡ interval 2 7 20) × (start map 2 (offices .stand 2) ≡ interval 2 5 15)
+  pub p8 : andThen (start map 2 (offices .stand 1)) (refine map (offices .stand 1)) ≡ served (record { via = 1; walked = 5; low = 9; high = 20; stages = 1 })
+  pub p9 : outcome (listing map offices 2 1) ≡ served (record { total = 1; lines = line 2 5 5 1 ∷ [] })
+  pub p10 : outcome (listing map offices 2 2) ≡ served (record { total = 5; lines = line 2 5 5 1 ∷ line 0 11 11 2 ∷ [] })

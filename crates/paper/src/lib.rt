@@ -1,0 +1,30 @@
+// The paper's kinds of number, and what several crates hand to each other.
+
+// Spatial distance, as the crow flies, in sixteenths of a cell.
+pub struct Spatial(pub u32);
+
+// Network distance, along roads, in furlongs.
+pub struct Network(pub u64);
+
+// Where a place lies: x and y are 0 to 1,023.
+pub struct Cell {
+    pub x: u32,
+    pub y: u32,
+}
+
+// How many records each section of a sheet has.
+pub struct Counts {
+    pub places: usize,
+    pub stages: usize,
+    pub blocks: usize,
+    pub offices: usize,
+}
+
+// How far a question has walked towards a place: where it stands, the length and the stages behind it, and the ends.
+pub struct Trail {
+    pub via: usize,
+    pub walked: Network,
+    pub low: Network,
+    pub high: Network,
+    pub stages: usize,
+}
