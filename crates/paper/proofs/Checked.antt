@@ -12,7 +12,7 @@ use Rattle.paper.specs.Sheet.{mapOf}
 use Rattle.paper.proofs.LaidOut.{LaidOut}
 use Rattle.paper.specs.Layout.{Bytes}
 use Rattle.paper.specs.Verdict.{area, Tabled, Checked, badlyLaid, short, cutOff, judged, Accepted}
-use Rattle.paper.proofs.Named.{distance-one}
+use Rattle.paper.proofs.Road.{distance-one}
 use Rattle.paper.proofs.Laid.{laid-out}
 use Rattle.paper.proofs.Verdict.{verdict-truth, truth-verdict, verdict-one}
 

@@ -2,6 +2,8 @@ pub mod Holds
 pub mod Count
 pub mod Test
 pub mod LaidOut
+pub mod Road
+pub mod Marked
 pub mod Block
 pub mod Stages
 pub mod Crow

@@ -12,10 +12,8 @@ use Rattle.paper.specs.Truth.{Truth, Told, Reach}
 use Rattle.paper.proofs.LaidOut.{LaidOut}
 use Rattle.paper.specs.Named.{Named, home, leave, nextBy}
 use Rattle.paper.proofs.Block.{BlockOf, block-of}
+use Rattle.paper.proofs.Road.{distance-one}
 use Rattle.paper.proofs.Count.{choose, rank, rank-lt, rank-top}
-
-pub distance-one : {m : Map} {u v d e : ℕ} → IsD m u v d → IsD m u v e → d ≡ e
-distance-one {d} {e} D E = omega (arith, D .least e (E .road), E .least d (D .road))
 
 -- the stage that u's block names for v, where d is the road distance between them
 pub record Leaving (m : Map) (u v d : ℕ) : Type 0 where

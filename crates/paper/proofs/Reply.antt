@@ -20,7 +20,7 @@ use Rattle.paper.specs.Answer.{Asked}
 use Rattle.paper.specs.Slice.{cleared}
 use Rattle.paper.specs.Reply.{Reply, invalid, lineOut, linesOut, walkOut, replyBy, reply, Answered}
 use Rattle.paper.proofs.Holds.{On}
-use Rattle.paper.proofs.Test.{both-left, both-right, due-true, or-left, or-right, or-zero}
+use Rattle.paper.proofs.Test.{both-left, both-right, due-true, or-left, or-right, or-zero, or-most, due-most}
 use Rattle.paper.proofs.Laid.{laid-out, offices-stand}
 use Rattle.paper.proofs.Walk.{Walk}
 use Rattle.paper.proofs.Fair.{Ended, listing-ends}
@@ -53,6 +53,21 @@ valid m o q k answer working h =
       works = leb-true _ _ (both-right c d cd);
     }
 
+invalid-most : (m : Map) (o : Offices) (q k : ℕ) (answer working : List ℕ) → invalid m o q k answer working ≤ 9
+unfolding invalid
+invalid-most m o q k answer working =
+    or-most (due p 7) _ 9 (due-most p 7 9 (omega arith))
+    (or-most (due ab 8) (due cd 9) 9 (due-most ab 8 9 (omega arith)) (due-most cd 9 9 (omega arith)))
+  where
+    p : Bool
+    p = ltb q (m .places)
+
+    ab : Bool
+    ab = both (leb 1 k) (leb k (o .count))
+
+    cd : Bool
+    cd = both (leb (lineWords * k) (length answer)) (leb (slotWords * o .count) (length working))
+
 module _ (s : List ℕ) (q k : ℕ) (answer working : List ℕ) where
   abbrev m : Map
   m = mapOf s
@@ -80,6 +95,15 @@ module _ (s : List ℕ) (q k : ℕ) (answer working : List ℕ) where
         nearest = λ x. near x .0;
         thrifty = λ x. near x .1;
       }
+
+  -- on an accepted sheet the walk's refusals, 16 to 19, are never given
+  pub reply-early : Bytes s → Accepted s → reply s q k answer working .number ≤ 9
+  unfolding reply
+  reply-early bytes A = go (invalid m o q k answer working) refl
+    where
+      go : (n : ℕ) → invalid m o q k answer working ≡ n → reply s q k answer working .number ≤ 9
+      go zero e = omega (arith, ap (λ (r : Reply). r .number) (reply-answered bytes A e .replied))
+      go (suc n) e = rw (A .laid, e) (omega (arith, invalid-most m o q k answer working))
 
 -- the list takes four words for each line, and they are the line's
 pub lines-size : (ls : List Line) → length (linesOut ls) ≡ lineWords * length ls

@@ -2,14 +2,14 @@
 use Prim.Native.Nat.{ℕ, zero, suc, _+_, _-_, _≤_, _<_, min}
 use native.Mathlib.Omega.{arith}
 use native.Mathlib.Decide.{ℕ-discrete, decLt}
-use mathlib.Core.Path.{_≡_, refl}
+use mathlib.Core.Path.{_≡_, refl, ap}
 use mathlib.Core.Bool.{Bool, true, false}
 use lib.Dec.{ltb, eqb}
-use borrow.Author.Tests.{ltb-true, ltb-false, eqb-true}
+use borrow.Author.Tests.{ltb-true, ltb-false, eqb-true, eq-eqb, ne-eqb}
 use Rattle.paper.specs.Sum.{sum, one}
 use Rattle.paper.specs.Map.{Map}
-use Rattle.paper.specs.Stage.{stagesBelow, leaving, stageOf}
-use Rattle.paper.proofs.Count.{below-suc, below-all}
+use Rattle.paper.specs.Stage.{stagesBelow, leaving, stageOf, colourOf}
+use Rattle.paper.proofs.Count.{below-suc, below-all, sum-most}
 
 -- what holds of each and the next, and goes on, holds of each and any later one
 pub chain : (R : ℕ → ℕ → Type 0) → ((a b c : ℕ) → R a b → R b c → R a c) → (n : ℕ) → ((i : ℕ) → suc i < n → R i (suc i))
@@ -26,6 +26,16 @@ count-span f a b (suc n) p h = go (f n) refl (count-span f a b n p (λ i q. h i 
     go : (t : Bool) → f n ≡ t → sum n (λ i. one (f i)) ≤ min n b - min n a → sum n (λ i. one (f i)) + one t ≤ min (suc n) b - min (suc n) a
     go true e k = let (l, r) = h n (omega arith) e in omega arith
     go false e k = omega arith
+
+-- a test that fails below b and holds from there on
+count-from : (f : ℕ → Bool) (b c : ℕ) → ((j : ℕ) → j < b → f j ≡ false) → ((j : ℕ) → b ≤ j → j < b + c → f j ≡ true) → sum (b + c) (λ j. one (f j)) ≡ c
+unfolding sum
+count-from f b zero out within =
+    let e : b + 0 ≡ b = omega arith in
+    rw e (omega (arith, sum-most (λ j. one (f j)) b 0 (λ j p. omega (arith, ap one (out j p)))))
+count-from f b (suc c) out within =
+    let e : b + suc c ≡ suc (b + c) = omega arith in
+    rw e (omega (arith, count-from f b c out (λ j p q. within j p (omega arith)), ap one (within (b + c) (omega arith) (omega arith))))
 
 module _ (m : Map) (sorted : (i j : ℕ) → i < j → j < m .stages → m .tail i ≤ m .tail j) (u : ℕ) where
   -- b parts the first n stages: those before b leave a place below u, the others do not
@@ -93,3 +103,19 @@ module _ (m : Map) (sorted : (i j : ℕ) → i < j → j < m .stages → m .tail
           later : (j : ℕ) → j < m .stages → Dec (i < j) → u < m .tail i → i ≤ j → m .tail j ≡ u → ⊥
           later j p (yes l) over q z = omega (arith, sorted i j l p)
           later j p (no l) over q z = let same : i ≡ j = omega arith in omega (arith, rw same at over)
+
+  -- the stage that leaves u and has the colour c is well named
+  pub stage-colour : (c : ℕ) → c < leaving m u → colourOf m (stageOf m u c) ≡ c
+  unfolding colourOf stageOf
+  stage-colour c h = count-from (λ j. eqb (m .tail j) (m .tail i)) (stagesBelow m u (m .stages)) c
+      (λ j p. ne-eqb (m .tail j) (m .tail i) (λ e. omega (arith, leaves, begins .low j p)))
+      (λ j p q. eq-eqb (m .tail j) (m .tail i) (omega (arith, leaves, begins .high j p (omega (arith, under)), sorted j i q under)))
+    where
+      i : ℕ
+      i = stagesBelow m u (m .stages) + c
+
+      under : i < m .stages
+      under = stage-under c h
+
+      leaves : m .tail i ≡ u
+      leaves = stage-leaves c h

@@ -14,12 +14,8 @@ use Rattle.paper.proofs.LaidOut.{LaidOut}
 use Rattle.paper.specs.Verdict.{verdict, Distances}
 use Rattle.paper.proofs.Test.{both-left, both-right, every-true}
 use Rattle.paper.proofs.Block.{BlockOf, block-of}
+use Rattle.paper.proofs.Road.{road-least}
 use Rattle.paper.proofs.Verdict.{Pair, pair, verdict-pair}
-
--- numbers that no stage makes smaller bound every road from below
-pub road-least : {m : Map} {v u l : ℕ} (p : ℕ → ℕ) → p v ≡ 0 → ((i : ℕ) → i < m .stages → p (m .tail i) ≤ m .furlongs i + p (m .head i)) → Road m v u l → p u ≤ l
-road-least p z h arrived = omega arith
-road-least p z h (along i q e r) = omega (arith, rw e at (h i q), road-least p z h r)
 
 -- no stage makes a road to v shorter than the table says
 unfoldable pub relaxed : Map → (ℕ → ℕ → ℕ) → ℕ → Bool

@@ -18,7 +18,7 @@ use Rattle.paper.proofs.LaidOut.{LaidOut}
 use Rattle.paper.specs.Verdict.{faultBy, fault, firstFault, useful, verdict, Distances}
 use Rattle.paper.proofs.Test.{both-true, both-left, both-right, every-true, every-of, any-true, any-of, due-true, due-zero, or-left, or-right, or-zero, first-zero, first-of, first-same}
 use Rattle.paper.proofs.Block.{BlockOf, block-of}
-use Rattle.paper.proofs.Named.{distance-one}
+use Rattle.paper.proofs.Road.{distance-one}
 
 -- nothing is due for u and v, u not v
 pub record Pair (m : Map) (d : ℕ → ℕ → ℕ) (u v : ℕ) : Type 0 where
