@@ -47,7 +47,7 @@ abbrev pub begin : List Slot → State
 begin ss = record { slots = ss; lines = []; total = 0 }
 
 module _ (m : Map) (o : Offices) where
-  begun-fair : (ss : List Slot) → Begun (λ i t. t .stages ≡ 0) (o .count) ss → Fair m o (begin ss)
+  pub begun-fair : (ss : List Slot) → Begun (λ i t. t .stages ≡ 0) (o .count) ss → Fair m o (begin ss)
   begun-fair ss B = record {
     size = B .size;
     counted = omega (arith, sum-most (λ i. at ss i .trail .stages) (o .count) 0 (λ i p. omega (arith, B .each i p)));
@@ -132,7 +132,7 @@ module _ (m : Map) (o : Offices) where
           on-if Q P (clear (st .slots) i (leader (retired (st .slots) i) (o .count))) _ _ (f i h)
           (λ c. on-then Q (λ t. P (walkedOn st i t)) P (refine m (o .stand i) (at (st .slots) i .trail)) _ (g i h c) (λ t q. q))
 
-  fair-step : (st : State) → Fair m o st → length (st .lines) < o .count → On Walk (λ st′. Fair m o st′ × Next st st′) (step m o st)
+  pub fair-step : (st : State) → Fair m o st → length (st .lines) < o .count → On Walk (λ st′. Fair m o st′ × Next st st′) (step m o st)
   fair-step st F p =
       step-on Walk (λ st′. Fair m o st′ × Next st st′) st F p
       (λ i L c. (listed-fair st F i L, omega (arith, snoc-length (st .lines) (lineOf i (at (st .slots) i .trail)))))
