@@ -29,7 +29,7 @@ pub record Pair (m : Map) (d : ℕ → ℕ → ℕ) (u v : ℕ) : Type 0 where
   pub high : ratioUnit * d u v ≤ m .high block * crow m u v
 
 module _ (m : Map) (d : ℕ → ℕ → ℕ) (u v : ℕ) where
-  apart : (u ≡ v → ⊥) → fault m d u v ≡ faultBy m d u v (blockOf m u v)
+  pub apart : (u ≡ v → ⊥) → fault m d u v ≡ faultBy m d u v (blockOf m u v)
   unfolding fault
   apart ne = rw (ne-eqb u v ne, fault)
 
@@ -142,20 +142,22 @@ module _ {m : Map} (L : LaidOut m) where
               high = w .tells .high _ (D u v hu hv);
             })
 
+  -- what is due for u and v hangs on the distances to v alone
+  pub fault-same : (d d′ : ℕ → ℕ → ℕ) (u v : ℕ) → u < m .places → ((x : ℕ) → x < m .places → d x v ≡ d′ x v) → fault m d u v ≡ fault m d′ u v
+  fault-same d d′ u v hu same = go (ℕ-discrete u v)
+    where
+      by : (r : Option ℕ) → blockOf m u v ≡ r → faultBy m d u v r ≡ faultBy m d′ u v r
+      by none e = refl
+      by (some b) e = rw (same u hu, same (m .head (stageOf m u (m .colour b))) (led u v b e))
+
+      go : Dec (u ≡ v) → fault m d u v ≡ fault m d′ u v
+      go (yes e) = fault-self m d u v e ∙ sym (fault-self m d′ u v e)
+      go (no ne) = apart m d u v ne ∙ by (blockOf m u v) refl ∙ sym (apart m d′ u v ne)
+
   -- two tables of road distances give one number
   pub verdict-one : (d d′ : ℕ → ℕ → ℕ) → Distances m d → Distances m d′ → verdict m d ≡ verdict m d′
   unfolding verdict firstFault
   verdict-one d d′ D D′ =
       rw (first-same (m .places) (λ u. firstOf (m .places) (fault m d u)) (λ u. firstOf (m .places) (fault m d′ u))
-      (λ u hu. first-same (m .places) (fault m d u) (fault m d′ u) (λ v hv. go u v hu hv (ℕ-discrete u v))))
-    where
-      same : (u v : ℕ) → u < m .places → v < m .places → d u v ≡ d′ u v
-      same u v hu hv = distance-one (D u v hu hv) (D′ u v hu hv)
-
-      by : (u v : ℕ) → u < m .places → v < m .places → (r : Option ℕ) → blockOf m u v ≡ r → faultBy m d u v r ≡ faultBy m d′ u v r
-      by u v hu hv none e = refl
-      by u v hu hv (some b) e = rw (same u v hu hv, same (m .head (stageOf m u (m .colour b))) v (led u v b e) hv)
-
-      go : (u v : ℕ) → u < m .places → v < m .places → Dec (u ≡ v) → fault m d u v ≡ fault m d′ u v
-      go u v hu hv (yes e) = fault-self m d u v e ∙ sym (fault-self m d′ u v e)
-      go u v hu hv (no ne) = apart m d u v ne ∙ by u v hu hv (blockOf m u v) refl ∙ sym (apart m d′ u v ne)
+      (λ u hu. first-same (m .places) (fault m d u) (fault m d′ u)
+      (λ v hv. fault-same d d′ u v hu (λ x hx. distance-one (D x v hx hv) (D′ x v hx hv)))))
