@@ -4,6 +4,7 @@ pub mod Test
 pub mod LaidOut
 pub mod Road
 pub mod Marked
+pub mod Far
 pub mod Block
 pub mod Stages
 pub mod Crow

@@ -18,7 +18,7 @@ use Rattle.paper.specs.Verdict.{Accepted}
 use Rattle.paper.specs.Listing.{Line, State, lineAt, listing}
 use Rattle.paper.specs.Answer.{Asked}
 use Rattle.paper.specs.Slice.{cleared}
-use Rattle.paper.specs.Reply.{Reply, invalid, lineOut, linesOut, walkOut, replyBy, reply, Answered}
+use Rattle.paper.specs.Reply.{Reply, invalid, lineOut, linesOut, walkOut, replyBy, reply, endOf, ended, Answered}
 use Rattle.paper.proofs.Holds.{On}
 use Rattle.paper.proofs.Test.{both-left, both-right, due-true, or-left, or-right, or-zero, or-most, due-most}
 use Rattle.paper.proofs.Laid.{laid-out, offices-stand}
@@ -80,21 +80,24 @@ module _ (s : List ℕ) (q k : ℕ) (answer working : List ℕ) where
       let X : Valid m o q k answer working = valid m o q k answer working g in
       record { place = X .place; one = X .one; enough = X .enough; stands = offices-stand s h }
 
+  ended-is : (st : State) → listing m o q k ≡ served st → ended s q k ≡ st
+  unfolding ended
+  ended-is st e = ap endOf e
+
   -- on an accepted sheet every valid question is answered
-  pub reply-answered : Bytes s → Accepted s → invalid (mapOf s) (officesOf s) q k answer working ≡ 0 → Answered s q k answer working
+  pub reply-answered : Bytes s → Accepted s → invalid (mapOf s) (officesOf s) q k answer working ≡ 0 → Answered s q k answer (reply s q k answer working)
   unfolding reply
   reply-answered bytes A g =
       let L : LaidOut m = laid-out s bytes (A .laid) in
       let Q : Asked m o q k = asked (A .laid) g in
       let (st, e, near) = answered L (A .truth) Q in
       let none : orElse (layout s) (invalid m o q k answer working) ≡ 0 = or-zero (layout s) _ (A .laid) g in
-      record {
-        state = st;
-        replied = ap (replyBy m o q k answer working) none ∙ ap (walkOut o k answer working) e;
-        seen = seen L (A .truth) Q;
-        nearest = λ x. near x .0;
-        thrifty = λ x. near x .1;
-      }
+      let same : reply s q k answer working ≡ walkOut o k answer working (served st) = ap (replyBy m o q k answer working) none ∙ ap (walkOut o k answer working) e in
+      let end : ended s q k ≡ st = ended-is st e in
+      rw same (record {
+        nearest = record { number = refl; count = refl; list = rw end refl; seen = seen L (A .truth) Q; nearest = λ x. rw end (near x .0) };
+        thrifty = record { total = rw end refl; thrifty = λ x. rw end (near x .1) };
+      })
 
   -- on an accepted sheet the walk's refusals, 16 to 19, are never given
   pub reply-early : Bytes s → Accepted s → reply s q k answer working .number ≤ 9
@@ -102,7 +105,7 @@ module _ (s : List ℕ) (q k : ℕ) (answer working : List ℕ) where
   reply-early bytes A = go (invalid m o q k answer working) refl
     where
       go : (n : ℕ) → invalid m o q k answer working ≡ n → reply s q k answer working .number ≤ 9
-      go zero e = omega (arith, ap (λ (r : Reply). r .number) (reply-answered bytes A e .replied))
+      go zero e = omega (arith, reply-answered bytes A e .nearest .number)
       go (suc n) e = rw (A .laid, e) (omega (arith, invalid-most m o q k answer working))
 
 -- the list takes four words for each line, and they are the line's

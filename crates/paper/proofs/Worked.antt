@@ -11,7 +11,7 @@ use Rattle.paper.specs.Test.{both}
 use Rattle.paper.specs.Sheet.{mapOf, officesOf, word}
 use Rattle.paper.proofs.LaidOut.{LaidOut}
 use Rattle.paper.specs.Verdict.{Tabled, Distances, Checked, judged, Accepted}
-use Rattle.paper.specs.Reply.{invalid, Answered}
+use Rattle.paper.specs.Reply.{invalid, reply, Answered}
 use Rattle.paper.specs.Marked.{sheet, map}
 use Rattle.paper.proofs.Test.{both-true, due-zero}
 use Rattle.paper.proofs.Laid.{laid-out}
@@ -46,7 +46,7 @@ sheet-checked before h = rw table-verdict at (judged table sheet-laid h distance
     }
 
 -- a question on it is answered, whatever slices it is lent
-pub sheet-answered : (answer working : List ℕ) → 8 ≤ length answer → 18 ≤ length working → Answered sheet 2 2 answer working
+pub sheet-answered : (answer working : List ℕ) → 8 ≤ length answer → 18 ≤ length working → Answered sheet 2 2 answer (reply sheet 2 2 answer working)
 unfolding mapOf officesOf sheet word invalid
 sheet-answered answer working h g =
     reply-answered sheet 2 2 answer working sheet-bytes accepted
