@@ -1,0 +1,40 @@
+//! The numbers of the paper, each standing once under a name.
+
+use std::ops::RangeInclusive;
+
+pub const WORD_BYTES: usize = 4;
+
+// Counts a section may have.
+pub const PLACES: RangeInclusive<u32> = 1..=1_024;
+pub const STAGES: RangeInclusive<u32> = 0..=8_192;
+pub const BLOCKS: RangeInclusive<u32> = 0..=262_144;
+pub const OFFICES: RangeInclusive<u32> = 0..=4_096;
+
+// Words of a record.
+pub const PLACE_WORDS: usize = 2;
+pub const STAGE_WORDS: usize = 3;
+pub const BLOCK_WORDS: usize = 6;
+pub const OFFICE_WORDS: usize = 1;
+
+// Layout rules.
+pub const TOP_LEVEL: u32 = 10;
+pub const GRID_SIDE: u32 = 1 << TOP_LEVEL;
+pub const LENGTHS: RangeInclusive<u32> = 1..=65_535;
+pub const LEAVING_MOST: usize = 8;
+
+// Lengths and ratios.
+pub const RATIO_UNIT: u64 = 1_024;
+pub const CROW_SCALE: u64 = 256;
+
+// Slices lent to a question.
+pub const ANSWER_WORDS: usize = 4;
+pub const WORKING_WORDS: usize = 6;
+
+/// No walked length and no end may pass this (number 19).
+pub const END_MOST: u64 = 1 << 40;
+
+// The program's own limits.
+pub const PROGRAM_HEAD_BYTES: usize = 2 * WORD_BYTES;
+pub const PROGRAM_SHEET_BYTES: usize = 65_536;
+pub const PROGRAM_PLACES: usize = 128;
+pub const PROGRAM_OFFICES: usize = 1_024;

@@ -1,0 +1,111 @@
+//! The independent second program: answers by the plainest means, written from document 01 alone.
+//! Its commands print what the proved program should print, make inputs, and test themselves.
+
+mod check;
+mod damage;
+mod damage_bytes;
+mod damage_truth;
+mod demands;
+mod draw;
+mod draw_net;
+mod draw_places;
+mod draw_trees;
+mod edges;
+mod edges_bytes;
+mod edges_layout;
+mod edges_truth;
+mod layout;
+mod limit_cases;
+mod limits;
+mod make;
+mod map;
+mod marked;
+mod measure;
+mod oracle;
+mod plain;
+mod probe;
+mod program;
+mod question;
+mod refusal;
+mod rng;
+mod roads;
+mod selftest;
+mod sheet;
+mod tally;
+mod test_large;
+mod test_paper;
+mod test_random;
+mod test_readings;
+mod truth;
+
+use limits::*;
+use std::io::{self, Read, Write};
+use std::path::Path;
+use std::process::ExitCode;
+
+const USAGE: &str = "usage: second answer | check | question Q K | make SEED COUNT DIR | expect DIR \
+    | selftest [SEED COUNT]";
+
+const USUAL_SEED: u64 = 1;
+const USUAL_COUNT: u64 = 4_000;
+
+fn main() -> ExitCode {
+    let arguments: Vec<String> = std::env::args().skip(1).collect();
+    let words: Vec<&str> = arguments.iter().map(String::as_str).collect();
+    match run(&words) {
+        Some(Ok(true)) => ExitCode::SUCCESS,
+        Some(Ok(false)) => ExitCode::FAILURE,
+        Some(Err(error)) => {
+            eprintln!("second: {error}");
+            ExitCode::FAILURE
+        }
+        None => {
+            eprintln!("{USAGE}");
+            ExitCode::from(2)
+        }
+    }
+}
+
+/// Nothing when the words are no command; else whether all went well.
+fn run(words: &[&str]) -> Option<io::Result<bool>> {
+    let number = |word: &str| word.parse::<u64>().ok();
+    match words {
+        ["answer"] => Some(standard_input().and_then(|input| say(&program::answer(&input)))),
+        ["check"] => Some(standard_input().and_then(|sheet| say(&checked(&sheet)))),
+        ["question", q, k] => {
+            let (q, k) = (number(q)?, number(k)?);
+            Some(standard_input().and_then(|sheet| say(&asked(&sheet, q, k))))
+        }
+        ["make", seed, count, folder] => {
+            Some(make::make(number(seed)?, number(count)?, Path::new(folder)).map(|()| true))
+        }
+        ["expect", folder] => {
+            Some(make::expect(Path::new(folder)).and_then(|tally| say(&tally.table())))
+        }
+        ["selftest"] => Some(Ok(selftest::run(USUAL_SEED, USUAL_COUNT))),
+        ["selftest", seed, count] => Some(Ok(selftest::run(number(seed)?, number(count)?))),
+        _ => None,
+    }
+}
+
+fn standard_input() -> io::Result<Vec<u8>> {
+    let mut bytes = Vec::new();
+    io::stdin().lock().read_to_end(&mut bytes)?;
+    Ok(bytes)
+}
+
+fn say(text: &str) -> io::Result<bool> {
+    io::stdout().write_all(text.as_bytes()).map(|()| true)
+}
+
+fn checked(sheet: &[u8]) -> String {
+    let most = *PLACES.end() as usize;
+    format!("{}\n", check::check(sheet, &mut vec![0; most * most]))
+}
+
+fn asked(sheet: &[u8], q: u64, k: u64) -> String {
+    let most = *OFFICES.end() as usize;
+    let mut list = vec![0; ANSWER_WORDS * most];
+    let outcome = question::question(sheet, q, k, &mut list, &mut vec![0; WORKING_WORDS * most]);
+    program::printed(&outcome, &list)
+}
