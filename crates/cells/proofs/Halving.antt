@@ -1,0 +1,36 @@
+-- The loop that finds a root: it halves the span in which the root lies.
+use Prim.Native.Nat.{ℕ, suc, _+_, _*_, _-_, _/_, _^_, _≤_, _<_}
+use native.Mathlib.Omega.{arith}
+use native.Mathlib.Nat.{mul-le-mul}
+use mathlib.Core.Path.{_≡_}
+use Rattle.paper.proofs.Crow.{Root}
+
+-- the root of n is one of the span numbers from r on
+pub record Within (n r span : ℕ) : Type 0 where
+  pub some : 1 ≤ span
+  pub under : r + span ≤ 2 ^ 17
+  pub from : r * r ≤ n
+  pub to : n < (r + span) * (r + span)
+
+pub within-all : (n : ℕ) → n < 2 ^ 34 → Within n 0 131072
+within-all n h = omega arith
+
+-- the middle's square is at most n, or above it
+pub within-above : (n r span : ℕ) → Within n r span → 1 < span → (r + span / 2) * (r + span / 2) ≤ n → Within n (r + span / 2) (span - span / 2)
+within-above n r span W h p =
+    let e : r + span / 2 + (span - span / 2) ≡ r + span = omega arith in
+    record { some = omega arith; under = omega (arith, W .under); from = p; to = rw e (W .to) }
+
+pub within-below : (n r span : ℕ) → Within n r span → 1 < span → n < (r + span / 2) * (r + span / 2) → Within n r (span - span / 2)
+within-below n r span W h p =
+    let half : r + span / 2 ≤ r + (span - span / 2) = omega arith in
+    record { some = omega arith; under = omega (arith, W .under); from = W .from; to = omega (arith, mul-le-mul half half) }
+
+pub within-one : (n r span : ℕ) → Within n r span → span ≤ 1 → Root n r
+within-one n r span W h =
+    let e : r + span ≡ suc r = omega (arith, W .some) in
+    record { square = W .from; next = rw e at (W .to) }
+
+-- the middle's square does not wrap
+pub square-fits : (n r span : ℕ) → Within n r span → (r + span / 2) * (r + span / 2) ≤ 2 ^ 34
+square-fits n r span W = let l : r + span / 2 ≤ 2 ^ 17 = omega (arith, W .under) in omega (arith, mul-le-mul l l)

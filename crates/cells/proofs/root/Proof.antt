@@ -1,0 +1,46 @@
+-- `cells::root` meets its contract. The invariant: the root is one of the next `span` numbers. The measure is `span`.
+use Prim.Native.Nat.{ℕ}
+use mathlib.Core.Logic.{⊎-elim}
+use native.Mathlib.Omega.{arith}
+use borrow.Author.Needs.{needs}
+use Rattle.cells.proofs.Halving.{Within, within-all, within-above, within-below, within-one, square-fits}
+use Rattle.cells.proofs.root.Statement.{statement}
+use Rattle.cells.proofs.root.Tie as tie
+
+abbrev Inv-loop : tie.InvT-loop
+Inv-loop n root₀ span₀ root span = Within n root span
+
+abbrev μ-loop : tie.MeasureT-loop
+μ-loop n root₀ span₀ root span = span
+
+loop-holds : tie.Need-loop-holds Inv-loop μ-loop
+loop-holds c = within-all _ (c .pre)
+
+add-middle : tie.Need-add-middle Inv-loop μ-loop
+add-middle c = search needs
+
+mul-if1 : tie.Need-mul-if1 Inv-loop μ-loop
+mul-if1 c = let i = c .before .loop in omega (arith, square-fits _ _ _ (i .inv))
+
+sub-span : tie.Need-sub-span Inv-loop μ-loop
+sub-span c = search needs
+
+loop-less : tie.Need-loop-less Inv-loop μ-loop
+loop-less c = search needs
+
+loop-again : tie.Need-loop-again Inv-loop μ-loop
+loop-again c =
+    let i = c .before .before .loop in
+    let n : ℕ = c .before .before .before .args .n in
+    ⊎-elim
+    (λ w. rw (w .1) (within-above n (i .root) (i .span) (i .inv) (omega arith) (omega (arith, w .0 .taken))))
+    (λ w. rw (w .1) (within-below n (i .root) (i .span) (i .inv) (omega arith) (omega (arith, w .0 .left))))
+    (c .if1 .came)
+
+returns : tie.Need-returns Inv-loop μ-loop
+returns c = let i = c .before .loop in within-one _ (i .root) (i .span) (i .inv) (omega arith)
+
+pub root-spec : {M : Type 1} → statement M
+root-spec =
+    tie.close
+    (tie.spec Inv-loop μ-loop loop-holds add-middle mul-if1 sub-span loop-less loop-again returns)

@@ -1,0 +1,72 @@
+// The code of a cell, and the crow distance between two cells.
+use paper::Cell;
+use paper::Spatial;
+
+mod table;
+
+ghost use mathlib.Core.Path.{_≡_};
+ghost use Prim.Native.Nat.{_+_, _*_, _^_, _<_, _≤_};
+ghost use Rattle.paper.specs.Sizes.{gridSide};
+ghost use Rattle.paper.specs.Cell.{spread as spreadOf, codeOf};
+ghost use Rattle.paper.specs.Crow.{gap as gapOf, crowAcross};
+ghost use Rattle.cells.specs.Cells.{OnGrid};
+ghost use Rattle.paper.proofs.Crow.{Root};
+
+// A crow distance counts in sixteenths of a cell, so its square in 256ths of a square cell.
+const CROW_SCALE: u64 = 256;
+
+// Every root that is asked for is below it.
+const ROOT_LIMIT: u64 = 131_072;
+
+// Bit b of x at bit 2b.
+pub fn spread(x: u32) -> u32
+    requires { ⌜ x < gridSide ⌝ }
+    ensures { λ r. ⌜ r ≡ spreadOf x ⌝ }
+{
+    table::SPREAD[x as usize]
+}
+
+// The code of a cell: x at its even bits, y at its odd ones.
+pub fn code(c: Cell) -> u32
+    requires { ⌜ OnGrid c ⌝ }
+    ensures { λ r. ⌜ r ≡ codeOf (c .x) (c .y) ⌝ }
+{
+    spread(c.x) + 2 * spread(c.y)
+}
+
+// How far apart two coordinates are.
+fn gap(a: u32, b: u32) -> u64
+    ensures { λ r. ⌜ r ≡ gapOf a b ⌝ }
+{
+    if a < b {
+        (b - a) as u64
+    } else {
+        (a - b) as u64
+    }
+}
+
+// The largest number whose square is at most n. It lies from `root` on, among the next `span` numbers.
+fn root(n: u64) -> u64
+    requires { ⌜ n < 2 ^ 34 ⌝ }
+    ensures { λ r. ⌜ Root n r ⌝ }
+{
+    let mut root = 0;
+    let mut span = ROOT_LIMIT;
+    while 1 < span {
+        let half = span / 2;
+        let middle = root + half;
+        root = if middle * middle <= n { middle } else { root };
+        span -= half;
+    }
+    root
+}
+
+// The crow distance between two cells.
+pub fn crow(a: Cell, b: Cell) -> Spatial
+    requires { ⌜ (OnGrid a) × (OnGrid b) ⌝ }
+    ensures { λ r. ⌜ r .0 ≡ crowAcross (gapOf (a .x) (b .x)) (gapOf (a .y) (b .y)) ⌝ }
+{
+    let dx = gap(a.x, b.x);
+    let dy = gap(a.y, b.y);
+    Spatial(root(CROW_SCALE * (dx * dx + dy * dy)) as u32)
+}
