@@ -18,7 +18,7 @@ use Rattle.paper.specs.Verdict.{Accepted}
 use Rattle.paper.specs.Listing.{Line, State, lineAt, listing}
 use Rattle.paper.specs.Answer.{Asked}
 use Rattle.paper.specs.Slice.{cleared}
-use Rattle.paper.specs.Reply.{Reply, invalid, lineOut, linesOut, walkOut, replyBy, reply, endOf, ended, Answered}
+use Rattle.paper.specs.Reply.{Reply, invalid, Valid, lineOut, linesOut, walkOut, replyBy, reply, endOf, ended, Answered}
 use Rattle.paper.proofs.Holds.{On}
 use Rattle.paper.proofs.Test.{both-left, both-right, due-true, or-left, or-right, or-zero, or-most, due-most}
 use Rattle.paper.proofs.Laid.{laid-out, offices-stand}
@@ -26,15 +26,15 @@ use Rattle.paper.proofs.Walk.{Walk}
 use Rattle.paper.proofs.Fair.{Ended, listing-ends}
 use Rattle.paper.proofs.Answer.{seen, answered}
 
--- none of 7, 8 and 9 is due
-pub record Valid (m : Map) (o : Offices) (q k : ℕ) (answer working : List ℕ) : Type 0 where
+-- none of 7, 8 and 9 is due, in plain sentences
+pub record Allowed (m : Map) (o : Offices) (q k : ℕ) (answer working : List ℕ) : Type 0 where
   pub place : q < m .places
   pub one : 1 ≤ k
   pub enough : k ≤ o .count
   pub answers : lineWords * k ≤ length answer
   pub works : slotWords * o .count ≤ length working
 
-pub valid : (m : Map) (o : Offices) (q k : ℕ) (answer working : List ℕ) → invalid m o q k answer working ≡ 0 → Valid m o q k answer working
+pub valid : (m : Map) (o : Offices) (q k : ℕ) (answer working : List ℕ) → invalid m o q k answer working ≡ 0 → Allowed m o q k answer working
 unfolding invalid
 valid m o q k answer working h =
     let p : Bool = ltb q (m .places) in
@@ -77,7 +77,7 @@ module _ (s : List ℕ) (q k : ℕ) (answer working : List ℕ) where
 
   asked : layout s ≡ 0 → invalid m o q k answer working ≡ 0 → Asked m o q k
   asked h g =
-      let X : Valid m o q k answer working = valid m o q k answer working g in
+      let X : Allowed m o q k answer working = valid m o q k answer working g in
       record { place = X .place; one = X .one; enough = X .enough; stands = offices-stand s h }
 
   ended-is : (st : State) → listing m o q k ≡ served st → ended s q k ≡ st
@@ -85,7 +85,7 @@ module _ (s : List ℕ) (q k : ℕ) (answer working : List ℕ) where
   ended-is st e = ap endOf e
 
   -- on an accepted sheet every valid question is answered
-  pub reply-answered : Bytes s → Accepted s → invalid (mapOf s) (officesOf s) q k answer working ≡ 0 → Answered s q k answer (reply s q k answer working)
+  pub reply-answered : Bytes s → Accepted s → Valid s q k answer working → Answered s q k answer (reply s q k answer working)
   unfolding reply
   reply-answered bytes A g =
       let L : LaidOut m = laid-out s bytes (A .laid) in
@@ -145,7 +145,7 @@ reply-kept s q k answer working = go (orElse (layout s) (invalid m o q k answer 
     o : Offices
     o = officesOf s
 
-    walk : Valid m o q k answer working → (r : Served State) → On Walk (Ended m o k (λ st. Unit {0})) r → Kept answer working (walkOut o k answer working r)
+    walk : Allowed m o q k answer working → (r : Served State) → On Walk (Ended m o k (λ st. Unit {0})) r → Kept answer working (walkOut o k answer working r)
     walk X (refused n) h = record { answer = cleared-size (lineWords * k) answer (X .answers); working = cleared-size (slotWords * o .count) working (X .works) }
     walk X (served st) E = record {
       answer = omega (arith, E .count, X .answers, lines-size (st .lines), length-append (linesOut (st .lines)) (drop (lineWords * k) answer), length-drop (lineWords * k) answer);
@@ -155,5 +155,5 @@ reply-kept s q k answer working = go (orElse (layout s) (invalid m o q k answer 
     go : (n : ℕ) → orElse (layout s) (invalid m o q k answer working) ≡ n → Kept answer working (replyBy m o q k answer working n)
     go (suc n) e = record { answer = refl; working = refl }
     go zero e =
-        let X : Valid m o q k answer working = valid m o q k answer working (or-right (layout s) _ e) in
+        let X : Allowed m o q k answer working = valid m o q k answer working (or-right (layout s) _ e) in
         walk X (listing m o q k) (listing-ends m o q k (X .enough))
