@@ -1,0 +1,3 @@
+pub mod Ready
+pub mod Blocks
+pub mod Walks

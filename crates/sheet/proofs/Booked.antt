@@ -1,0 +1,113 @@
+-- The road book while it is filled, and that where the stages of a place begin is what the paper says.
+use Prim.Native.Nat.{ℕ, _+_, _*_, _≤_, _<_}
+use native.Mathlib.Omega.{arith}
+use native.Mathlib.Decide.{ℕ-discrete, decLt}
+use mathlib.Core.Path.{_≡_, refl, _∙_}
+use mathlib.Core.List.{List}
+use lib.ListN.{length, getD, set}
+use lib.Seq.{getD-set-same, getD-set-other}
+use Rattle.paper.specs.Map.{Map}
+use Rattle.paper.specs.Stage.{stagesBelow, stageOf}
+use Rattle.paper.specs.Sheet.{word, stagesAt, mapOf}
+use Rattle.paper.specs.Layout.{layout}
+use Rattle.paper.proofs.Laid.{passed, stages-ok}
+use Rattle.paper.proofs.Stages.{Parts, begins}
+use Rattle.sheet.specs.Book.{Book, Beyond, Filled, Begins, Next, Ascending}
+
+pub filled-start : (f : ℕ → ℕ) (l : List ℕ) → Filled 0 f l l
+filled-start f l = record { words = λ i p. absurd (omega arith); beyond = λ k p. refl }
+
+pub filled-step : (f : ℕ → ℕ) (i x : ℕ) (old l : List ℕ) → Filled i f old l → i < length l → x ≡ f i → Filled (i + 1) f old (set l i x)
+filled-step f i x old l F p e = record { words = words; beyond = λ k q. getD-set-other l i k x 0 (λ d. omega arith) ∙ F .beyond k (omega arith) }
+  where
+    words : (k : ℕ) → k < i + 1 → getD (set l i x) k 0 ≡ f k
+    words k q = elim (ℕ-discrete k i) [
+      | yes d ↦ rw (d, getD-set-same l i x 0 p) e
+      | no d ↦ rw (getD-set-other l i k x 0 d) (F .words k (omega arith))
+    ]
+
+-- the places below u have their word, and the stages before i leave one of them
+pub record Begun (tails : List ℕ) (n u i : ℕ) (old l : List ℕ) : Type 0 where
+  pub upto : i ≤ n
+  pub low : (k : ℕ) → k < i → getD tails k 0 < u
+  pub each : (v : ℕ) → v < u → Begins tails n v (getD l v 0)
+  pub beyond : Beyond u old l
+
+pub begun-start : (tails : List ℕ) (n : ℕ) (l : List ℕ) → Begun tails n 0 0 l l
+begun-start tails n l = record { upto = omega arith; low = λ k p. absurd (omega arith); each = λ v p. absurd (omega arith); beyond = λ k p. refl }
+
+module _ (tails : List ℕ) (n : ℕ) (up : Ascending tails n) (u i : ℕ) (old l : List ℕ) (B : Begun tails n u i old l) (r : ℕ) (N : Next tails n u i r) where
+  parts : Begins tails n u r
+  parts = record { most = N .most; low = low; high = high }
+    where
+      low : (k : ℕ) → k < r → getD tails k 0 < u
+      low k p = elim (decLt k i) [ yes q ↦ B .low k q | no q ↦ N .low k (omega arith) p ]
+
+      high : (k : ℕ) → r ≤ k → k < n → u ≤ getD tails k 0
+      high k p q = elim (ℕ-discrete r k) [
+        | yes e ↦ rw e at (N .high (omega arith))
+        | no e ↦ omega (arith, N .high (omega arith), up r k (omega arith) q)
+      ]
+
+  pub begun-step : u < length l → Begun tails n (u + 1) r old (set l u r)
+  begun-step p = record {
+    upto = N .most;
+    low = λ k q. omega (arith, parts .low k q);
+    each = each;
+    beyond = λ k q. getD-set-other l u k r 0 (λ d. omega arith) ∙ B .beyond k (omega arith);
+  }
+    where
+      each : (v : ℕ) → v < u + 1 → Begins tails n v (getD (set l u r) v 0)
+      each v q = elim (ℕ-discrete v u) [
+        | yes d ↦ rw (d, getD-set-same l u r 0 p) parts
+        | no d ↦ rw (getD-set-other l u v r 0 d) (B .each v (omega arith))
+      ]
+
+-- what parts the tails of a map is where the stages begin
+module _ (m : Map) (sorted : (i j : ℕ) → i < j → j < m .stages → m .tail i ≤ m .tail j) (tails : List ℕ) (same : (i : ℕ) → i < m .stages → getD tails i 0 ≡ m .tail i) where
+  pub ascending : Ascending tails (m .stages)
+  ascending i j p q = omega (arith, sorted i j p q, same i (omega arith), same j q)
+
+  pub begins-is : (u b : ℕ) → Begins tails (m .stages) u b → b ≡ stagesBelow m u (m .stages)
+  begins-is u b B = go (decLt b a) (decLt a b)
+    where
+      a : ℕ
+      a = stagesBelow m u (m .stages)
+
+      P : Parts m sorted u (m .stages) a
+      P = begins m sorted u
+
+      go : Dec (b < a) → Dec (a < b) → b ≡ a
+      go (yes p) _ = absurd (omega (arith, P .most, P .low b p, B .high b (omega arith) (omega (arith, P .most)), same b (omega (arith, P .most))))
+      go (no p) (yes q) = absurd (omega (arith, B .most, B .low a q, P .high a (omega arith) (omega (arith, B .most)), same a (omega (arith, B .most))))
+      go (no p) (no q) = omega arith
+
+-- the book of a sheet with nothing due: n stages, whose first tail stands at word a
+module _ (s : List ℕ) (laid : layout s ≡ 0) (n a : ℕ) (stages : n ≡ mapOf s .stages) (here : a ≡ stagesAt s + 1) where
+  sorted : (i j : ℕ) → i < j → j < mapOf s .stages → mapOf s .tail i ≤ mapOf s .tail j
+  sorted i j p q = stages-ok (mapOf s) (passed s laid .stages) .sorted i j p q .le
+
+  module _ (tails old : List ℕ) (T : Filled n (λ i. word s (a + 3 * i)) old tails) where
+    same : (i : ℕ) → i < mapOf s .stages → getD tails i 0 ≡ mapOf s .tail i
+    unfolding mapOf
+    same i p = let e : stagesAt s + 1 + 3 * i ≡ a + 3 * i = omega arith in rw e (T .words i (omega arith))
+
+    pub tails-ascend : Ascending tails n
+    tails-ascend = rw stages (ascending (mapOf s) sorted tails same)
+
+    -- the first head stands at word b, the first length at word c
+    pub book-of : (b c p : ℕ) (first heads lengths heads₀ lengths₀ : List ℕ)
+        → Filled n (λ i. word s (b + 3 * i)) heads₀ heads → Filled n (λ i. word s (c + 3 * i)) lengths₀ lengths
+        → ((u : ℕ) → u < p → Begins tails n u (getD first u 0)) → b ≡ stagesAt s + 2 → c ≡ stagesAt s + 3 → p ≡ mapOf s .places → Book (mapOf s) first tails heads lengths
+    unfolding mapOf
+    book-of b c p first heads lengths heads₀ lengths₀ H L B there beyond places = record {
+      begins = λ u q. begins-is (mapOf s) sorted tails same u (getD first u 0) (rw stages at (B u (omega arith)));
+      tail = same;
+      head = λ i q. rw (← there) (H .words i (omega arith));
+      furlongs = λ i q. rw (← beyond) (L .words i (omega arith));
+    }
+
+-- the stage of u's colour c, by the book
+pub stage-at : (m : Map) (first tails heads lengths : List ℕ) → Book m first tails heads lengths → (u c : ℕ) → u < m .places → stageOf m u c ≡ getD first u 0 + c
+unfolding stageOf
+stage-at m first tails heads lengths B u c p = rw (B .begins u p)
