@@ -1,0 +1,54 @@
+-- What a look through a slice shows: of a test over its words, and of a column of distances.
+use Prim.Native.Nat.{ℕ, zero, suc, _+_, _<_}
+use native.Mathlib.Omega.{arith}
+use native.Mathlib.Numerals.{add-one}
+use mathlib.Core.Path.{_≡_, refl}
+use mathlib.Core.Bool.{Bool, true, false}
+use lib.Dec.{eqb}
+use lib.ListN.{getD, replicate}
+use borrow.Author.Tests.{eqb-true, eq-eqb}
+use Rattle.paper.specs.Test.{both, every, any}
+use Rattle.paper.specs.Map.{Map}
+use Rattle.paper.specs.Road.{Road, IsD}
+use Rattle.paper.proofs.Test.{true-false, any-true, any-of, both-true}
+use Rattle.roads.specs.Towards.{far, Towards}
+
+-- a test that fails somewhere
+pub every-not : (n : ℕ) (f : ℕ → Bool) → every n f ≡ false → (i : ℕ) × (i < n) × (f i ≡ false)
+unfolding every
+every-not zero f h = true-false refl h
+every-not (suc n) f h = go (every n f) (every-not n f) (f n) refl h
+  where
+    go : (s : Bool) → (s ≡ false → (i : ℕ) × (i < n) × (f i ≡ false)) → (t : Bool) → f n ≡ t → both s t ≡ false → (i : ℕ) × (i < suc n) × (f i ≡ false)
+    go true g true q h = true-false refl h
+    go true g false q h = (n, omega arith, q)
+    go false g t q h = let (i, p, r) = g refl in (i, omega arith, r)
+
+-- one more word is looked at, and the look goes on
+pub every-more : (n : ℕ) (f : ℕ → Bool) → every n f ≡ true → f n ≡ true → every (n + 1) f ≡ true
+unfolding every
+every-more n f h q = rw add-one (both-true (every n f) (f n) h q)
+
+pub any-more : (n : ℕ) (f : ℕ → Bool) → any n f ≡ false → f n ≡ false → any (n + 1) f ≡ false
+unfolding any
+any-more n f h q = rw (add-one, h) q
+
+-- some place has no road to v, or the column holds the distances to v
+module _ (m : Map) (n v : ℕ) (t : ℕ → ℕ) (T : Towards m n v t) where
+  abbrev is-far : ℕ → Bool
+  is-far u = eqb (t u) far
+
+  pub cut-off : any n is-far ≡ true → (u : ℕ) × (u < n) × ((l : ℕ) → Road m v u l → ⊥)
+  cut-off h = let (u, p, e) = any-true n is-far h in (u, p, T .none u p (eqb-true _ _ e))
+
+  pub all-near : any n is-far ≡ false → (u : ℕ) → u < n → IsD m u v (t u)
+  all-near h u p = T .near u p (omega (arith, T .low u p, not-far))
+    where
+      not-far : t u ≡ far → ⊥
+      not-far e = true-false (any-of n is-far u p (eq-eqb (t u) far e)) h
+
+-- every word of a slice of zeros is 0, past its end too
+pub zeros : (n i : ℕ) → _≡_ {A = ℕ} (getD (replicate n 0) i 0) 0
+zeros zero i = refl
+zeros (suc n) zero = refl
+zeros (suc n) (suc i) = zeros n i

@@ -1,0 +1,63 @@
+-- `truth::slices::all_marked` meets its contract. The invariant: every block below b is marked.
+use mathlib.Core.Bool.{true}
+use mathlib.Core.Path.{_≡_, refl, sym}
+use Prim.Native.Nat.{_-_, _≤_}
+use native.Mathlib.Omega.{arith}
+use borrow.Author.Tests.{eq-eqb, ne-eqb}
+use borrow.Author.Needs.{needs}
+use lib.Dec.{eqb}
+use lib.ListN.{getD}
+use Rattle.paper.specs.Test.{every}
+use Rattle.paper.proofs.Test.{every-false}
+use Rattle.truth.specs.Table.{used}
+use Rattle.truth.proofs.Scans.{every-more}
+use Rattle.truth.proofs.slices.all_marked.Statement.{statement}
+use Rattle.truth.proofs.slices.all_marked.Tie as tie
+
+abbrev Inv-loop : tie.InvT-loop
+Inv-loop marks n b₀ b = (b ≤ n) × (every b (λ k. eqb (getD marks k 0) used) ≡ true)
+
+abbrev μ-loop : tie.MeasureT-loop
+μ-loop marks n b₀ b = n - b
+
+loop-holds : tie.Need-loop-holds Inv-loop μ-loop
+unfolding every
+loop-holds c = (omega arith, refl)
+
+shared-slice-read-if1 : tie.Need-shared-slice-read-if1 Inv-loop μ-loop
+shared-slice-read-if1 c = search needs
+
+returns : tie.Need-returns Inv-loop μ-loop
+returns c =
+    let s = c .before .before .before .before in
+    sym (every-false (s .args .n) (λ k. eqb (getD (s .args .marks .now) k 0) used) (c .before .before .before .loop .b) (omega arith) (ne-eqb _ _ (c .if1 .taken)))
+
+add-b : tie.Need-add-b Inv-loop μ-loop
+add-b c = search needs
+
+loop-less : tie.Need-loop-less Inv-loop μ-loop
+loop-less c = search needs
+
+loop-again : tie.Need-loop-again Inv-loop μ-loop
+loop-again c = (omega arith, every-more _ _ (c .before .before .before .loop .inv .1) (eq-eqb _ _ (c .if1 .left)))
+
+returns-2 : tie.Need-returns-2 Inv-loop μ-loop
+returns-2 c =
+    let l = c .before .loop in
+    let s = c .before .before in
+    let e : l .b ≡ s .args .n = omega arith in
+    sym (rw e at (l .inv .1))
+
+pub all-marked-spec : {M : Type 1} → statement M
+all-marked-spec =
+    tie.close
+    (tie.spec
+    Inv-loop
+    μ-loop
+    loop-holds
+    shared-slice-read-if1
+    returns
+    add-b
+    loop-less
+    loop-again
+    returns-2)

@@ -1,0 +1,4 @@
+pub mod Table
+pub mod Faults
+pub mod Pairs
+pub mod Roads

@@ -1,0 +1,82 @@
+// The check: whether a sheet tells the truth about its roads, and the road distances between all its places.
+mod columns;
+mod pairs;
+mod sizes;
+mod slices;
+
+use crate::columns::columns;
+use crate::sizes::MOST_PLACES;
+use crate::sizes::MOST_STAGES;
+use paper::Counts;
+use roads::chain;
+use sheet::Laid;
+use sheet::layout;
+use sheet::road_book;
+ghost use mathlib.Core.Path.{_≡_};
+ghost use mathlib.Core.Logic.{_↔_};
+ghost use Prim.Native.Nat.{_*_, _≤_};
+ghost use lib.ListN.{length};
+ghost use Rattle.paper.specs.Sheet.{mapOf};
+ghost use Rattle.paper.specs.Verdict.{area, Checked, Accepted};
+ghost use Rattle.quadtree.specs.Ready.{Ready};
+
+// The check of a sheet that is laid out, with a slice that is long enough: the road book, its chains, and then column after column.
+fn survey(sheet: &[u8], counts: Counts, distances: &mut [u32]) -> u32
+    requires { ⌜ Ready (now sheet) counts ⌝ }
+    requires { ⌜ counts .places * counts .places ≤ length (now distances) ⌝ }
+    ensures { λ r. ⌜ Checked (now (sheet .entry)) (now (distances .entry)) r (now (distances .exit)) ⌝ }
+{
+    let places = counts.places;
+    let stages = counts.stages;
+    let mut first = [0u32; MOST_PLACES];
+    let mut tails = [0u32; MOST_STAGES];
+    let mut heads = [0u32; MOST_STAGES];
+    let mut lengths = [0u32; MOST_STAGES];
+    road_book(
+        sheet,
+        counts,
+        &mut first,
+        &mut tails,
+        &mut heads,
+        &mut lengths,
+    );
+    let mut last = [0u32; MOST_PLACES];
+    let mut previous = [0u32; MOST_STAGES];
+    chain(&heads[..stages], places, &mut last, &mut previous);
+    columns(
+        sheet,
+        counts,
+        &first,
+        &tails[..stages],
+        &heads,
+        &lengths,
+        &last,
+        &previous,
+        distances,
+    )
+}
+
+// The check of a sheet that is laid out: 10, or what the roads and the blocks come to.
+fn judge(sheet: &[u8], counts: Counts, distances: &mut [u32]) -> u32
+    requires { ⌜ Ready (now sheet) counts ⌝ }
+    ensures { λ r. ⌜ Checked (now (sheet .entry)) (now (distances .entry)) r (now (distances .exit)) ⌝ }
+{
+    let places = counts.places;
+    if distances.len() < places * places {
+        return 10;
+    }
+    survey(sheet, counts, distances)
+}
+
+// 0 for a sheet that is laid out and tells the truth, and else the first of 1 to 6 and 10 to 15 that is due. After 0 and after 12 to 15
+// word u × N + v of the slice is the road distance from u to v; after 11 the first N × N words are 0; otherwise nothing is written.
+pub fn check(sheet: &[u8], distances: &mut [u32]) -> u32
+    ensures rules { λ r. ⌜ Checked (now (sheet .entry)) (now (distances .entry)) r (now (distances .exit)) ⌝ }
+    ensures truth { λ r. ⌜ (area (mapOf (now (sheet .entry))) ≤ length (now (distances .entry)) → (r ≡ 0) ↔ Accepted (now (sheet .entry))) ⌝ }
+{
+    let laid = layout(sheet);
+    match laid {
+        Laid::Out(counts) => judge(sheet, counts, distances),
+        Laid::Refused(number) => number,
+    }
+}
