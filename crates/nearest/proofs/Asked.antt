@@ -1,0 +1,33 @@
+-- The question's contract from its first clause, and the sheet that the layout hands over.
+use Prim.Native.Nat.{ℕ}
+use mathlib.Core.Path.{_≡_, sym, subst, _∙_}
+use mathlib.Core.List.{List}
+use Rattle.paper.specs.declared.Counts.{Counts}
+use Rattle.paper.specs.Layout.{Bytes, layout}
+use Rattle.paper.specs.Verdict.{Accepted}
+use Rattle.paper.specs.Reply.{Reply, reply, Valid, ListsNearest, RefinesThriftily}
+use Rattle.paper.proofs.Reply.{reply-answered}
+use Rattle.sheet.specs.Laid.{laidOf}
+use Rattle.sheet.specs.declared.Laid.the-variants as laid
+use Rattle.sheet.proofs.Room.{laid-counts, laid-number}
+use Rattle.quadtree.specs.Ready.{Ready}
+use Rattle.nearest.proofs.Replies.{early, reply-badly-laid}
+
+pub laid-ready : (s : List ℕ) (c : Counts) → laid.Out c ≡ laidOf s → Ready s c
+laid-ready s c e = let (l, same) = laid-counts s c e in record { laid = l; counts = same }
+
+-- refused by the layout: both slices untouched
+pub laid-refused : (s : List ℕ) (q k x : ℕ) (a w : List ℕ) → laid.Refused x ≡ laidOf s → early x a w ≡ reply s q k a w
+laid-refused s q k x a w e = let (n, is, l) = laid-number s x e in rw is (sym (reply-badly-laid s q k a w n l))
+
+-- the clauses about an accepted sheet follow from the clause of the rules
+module _ (s : List ℕ) (q k : ℕ) (a w : List ℕ) (bytes : Bytes s) (r : Reply) (rules : r ≡ reply s q k a w) where
+  pub lists-nearest : Accepted s → Valid s q k a w → ListsNearest s q k a r
+  lists-nearest A g = subst (ListsNearest s q k a) (sym rules) (reply-answered s q k a w bytes A g .nearest)
+
+  pub refines-thriftily : Accepted s → Valid s q k a w → RefinesThriftily s q k r
+  refines-thriftily A g = subst (RefinesThriftily s q k) (sym rules) (reply-answered s q k a w bytes A g .thrifty)
+
+-- any two outcomes that the contract allows are equal
+pub question-one : (s : List ℕ) (q k : ℕ) (a w : List ℕ) (r r′ : Reply) → r ≡ reply s q k a w → r′ ≡ reply s q k a w → r ≡ r′
+question-one s q k a w r r′ e e′ = e ∙ sym e′

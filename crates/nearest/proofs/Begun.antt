@@ -1,0 +1,172 @@
+-- The first intervals, office by office: the slots so far, a refusal, and the working slice once all stand in it.
+use Prim.Native.Nat.{ℕ, zero, suc, _+_, _*_, _≤_, _<_}
+use native.Mathlib.Omega.{arith}
+use mathlib.Core.Path.{_≡_, refl, sym, ap, subst, _∙_}
+use mathlib.Core.Bool.{true}
+use mathlib.Core.List.{List, [], _∷_, _++_}
+use lib.ListN.{length, set, length-append, List·getD-append}
+use lib.Seq.{getD-set-same, getD-set-other, getD-at}
+use Rattle.mintree.specs.Mintree.{Played, Same}
+use Rattle.paper.specs.Sizes.{mostOffices, slotWords}
+use Rattle.paper.specs.Served.{Served, refused, served, andThen}
+use Rattle.paper.specs.Map.{Map, Offices}
+use Rattle.paper.specs.Trail.{Trail, start}
+use Rattle.paper.specs.Listing.{Slot, noSlot, at, starts, run, enough, listing}
+use Rattle.paper.proofs.Count.{below-suc, below-all}
+use Rattle.paper.proofs.Test.{true-false}
+use Rattle.paper.proofs.Fair.{Fair, begin, begun-fair}
+use Rattle.nearest.specs.Working.{treeAt, key, Side, Stored, Held, Shown, Beyond}
+use Rattle.quadtree.specs.Ready.{Sane}
+use Rattle.paper.proofs.Holds.{given}
+use Rattle.paper.proofs.Walk.{Walk, walk-start}
+use Rattle.nearest.specs.Going.{StartedNow, StartedAll}
+use Rattle.quadtree.proofs.Sizes.{start-sane}
+use Rattle.nearest.proofs.Hold.{side-same, stored-side, stored-key}
+
+module _ (m : Map) (o : Offices) (q : ℕ) where
+  abbrev n : ℕ
+  n = o .count
+
+  -- the first i offices have their first intervals
+  pub record Prefix (i : ℕ) (w : List ℕ) : Type 0 where
+    pub slots : List Slot
+    pub begun : starts m o q i ≡ served slots
+    pub size : length slots ≡ i
+    pub waits : (j : ℕ) → j < i → at slots j .waits ≡ true
+    pub fresh : (j : ℕ) → j < i → at slots j .trail .stages ≡ 0
+    pub held : (j : ℕ) → j < i → Held w n j (at slots j .trail)
+    pub sane : (j : ℕ) → j < i → Sane m (at slots j .trail)
+
+  pub prefix-none : (w : List ℕ) → Prefix 0 w
+  unfolding starts
+  prefix-none w = record {
+    slots = [];
+    begun = refl;
+    size = refl;
+    waits = λ j p. absurd (omega arith);
+    fresh = λ j p. absurd (omega arith);
+    held = λ j p. absurd (omega arith);
+    sane = λ j p. absurd (omega arith);
+  }
+
+  starts-next : (i : ℕ) (ss : List Slot) → starts m o q i ≡ served ss → starts m o q (suc i) ≡ andThen (start m q (o .stand i)) (λ t. served (ss ++ (record { trail = t; waits = true } ∷ [])))
+  unfolding starts
+  starts-next i ss e = ap (λ (x : Served (List Slot)). andThen x (λ ss. andThen (start m q (o .stand i)) (λ t. served (ss ++ (record { trail = t; waits = true } ∷ []))))) e
+
+  starts-stay : (i k e : ℕ) → starts m o q i ≡ refused e → i ≤ k → starts m o q k ≡ refused e
+  unfolding starts
+  starts-stay i zero e h p = let z : i ≡ 0 = omega arith in rw z at h
+  starts-stay i (suc k) e h p = below-suc (starts m o q (suc k) ≡ refused e) i (suc k) (omega arith) (λ z. rw z at h) (λ l. rw (starts-stay i k e h (omega arith)))
+
+  module _ {i : ℕ} {w : List ℕ} (P : Prefix i w) (p : i < n) where
+    pub prefix-refused : (e : ℕ) → start m q (o .stand i) ≡ refused e → starts m o q n ≡ refused e
+    prefix-refused e r =
+        starts-stay (suc i) n e (starts-next i (P .slots) (P .begun) ∙ ap (λ (x : Served Trail). andThen x (λ t. served (P .slots ++ (record { trail = t; waits = true } ∷ [])))) r) (omega arith)
+
+    pub prefix-more : (t : Trail) → start m q (o .stand i) ≡ served t → t .stages ≡ 0 → Sane m t → (w₁ : List ℕ) → slotWords * n ≤ length w → Stored i t w w₁
+        → Prefix (suc i) (set w₁ (treeAt n + (n + i)) (key (t .low) i))
+    prefix-more t r z s w₁ long X = record {
+      slots = ss′;
+      begun = starts-next i (P .slots) (P .begun) ∙ ap (λ (x : Served Trail). andThen x (λ t. served (P .slots ++ (record { trail = t; waits = true } ∷ [])))) r;
+      size = omega (arith, length-append (P .slots) (y ∷ []), P .size);
+      waits = below-all (λ j. at ss′ j .waits ≡ true) i (λ j l. rw (old j l) (P .waits j l)) (rw new refl);
+      fresh = below-all (λ j. at ss′ j .trail .stages ≡ 0) i (λ j l. rw (old j l) (P .fresh j l)) (rw new z);
+      held = below-all (λ j. Held w₂ n j (at ss′ j .trail)) i (λ j l. rw (old j l) (kept j l (P .held j l))) (rw new here);
+      sane = below-all (λ j. Sane m (at ss′ j .trail)) i (λ j l. rw (old j l) (P .sane j l)) (rw new s);
+    }
+      where
+        w₂ : List ℕ
+        w₂ = set w₁ (treeAt n + (n + i)) (key (t .low) i)
+
+        y : Slot
+        y = record { trail = t; waits = true }
+
+        ss′ : List Slot
+        ss′ = P .slots ++ (y ∷ [])
+
+        old : (j : ℕ) → j < i → at ss′ j ≡ at (P .slots) j
+        old j l = List·getD-append (P .slots) (y ∷ []) noSlot j (omega (arith, P .size))
+
+        new : at ss′ i ≡ y
+        new = getD-at (P .slots) y [] noSlot i (P .size)
+
+        below : (j : ℕ) (r : Trail) → j < n → Side w₁ j r → Side w₂ j r
+        below j r l = side-same (λ k a b. getD-set-other w₁ (treeAt n + (n + i)) k (key (t .low) i) 0 (omega arith))
+
+        kept : (j : ℕ) → j < i → Held w n j (at (P .slots) j .trail) → Held w₂ n j (at (P .slots) j .trail)
+        kept j l H = record {
+          side = below j _ (omega arith) (stored-side X j _ (omega arith) (H .side));
+          low = getD-set-other w₁ (treeAt n + (n + i)) (treeAt n + (n + j)) (key (t .low) i) 0 (omega arith) ∙ stored-key X n j p ∙ H .low;
+        }
+
+        here : Held w₂ n i t
+        here = record { side = below i t p (X .side); low = getD-set-same w₁ (treeAt n + (n + i)) (key (t .low) i) 0 (omega (arith, X .long)) }
+
+  -- once the tree is built over them, the working slice shows them
+  module _ {w : List ℕ} (P : Prefix n w) (few : n ≤ mostOffices) (long : slotWords * n ≤ length w) (w′ : List ℕ) (C : Same (treeAt n) n w w′) (Y : Played w′ (treeAt n) n) where
+    pub prefix-shown : Shown m (o .count) w′ (P .slots)
+    prefix-shown = record {
+      few = few;
+      long = omega (arith, C .long);
+      size = P .size;
+      played = Y;
+      held = λ j l e. record {
+        side = side-same (λ k a b. C .before k (omega arith)) (P .held j l .side);
+        low = C .after (treeAt n + (n + j)) (omega arith) ∙ P .held j l .low;
+      };
+      sane = λ j l e. P .sane j l;
+      left = λ j l e. true-false (P .waits j l) e;
+    }
+
+    pub prefix-fair : Fair m o (begin (P .slots))
+    prefix-fair = begun-fair m o (P .slots) (record { size = P .size; waits = P .waits; each = P .fresh })
+
+fresh-stages : (m : Map) (q v : ℕ) (t : Trail) → start m q v ≡ served t → t .stages ≡ 0
+fresh-stages m q v t e = given Walk (λ t. t .stages ≡ 0) (start m q v) t e (walk-start m q v)
+
+-- office i, whose first trail stands in the slice
+pub started-now : (m : Map) (o : Offices) (q i v : ℕ) (w w₁ : List ℕ) (t : Trail) (at x : ℕ) → q < m .places → v ≡ o .stand i → start m q v ≡ served t
+    → Stored i t w w₁ → at ≡ treeAt (o .count) + (o .count + i) → x ≡ key (t .low) i → StartedNow m o q i w (set w₁ at x)
+started-now m o q i v w w₁ t at x p e r X a y = record {
+  trail = t;
+  begun = rw (sym e) r;
+  sane = start-sane m q v t p r;
+  side = w₁;
+  stored = X;
+  written = rw (a, y);
+}
+
+pub prefix-next : (m : Map) (o : Offices) (q : ℕ) {i : ℕ} {w : List ℕ} → Prefix m o q i w → i < o .count → slotWords * o .count ≤ length w
+    → (w′ : List ℕ) → StartedNow m o q i w w′ → Prefix m o q (i + 1) w′
+prefix-next m o q {i} {w} P p long w′ S =
+    let e : i + 1 ≡ suc i = omega arith in
+    rw (e, S .written) (prefix-more m o q P p (S .trail) (S .begun) (fresh-stages m q (o .stand i) (S .trail) (S .begun)) (S .sane) (S .side) long (S .stored))
+
+pub built-beyond : (n : ℕ) (w w′ : List ℕ) → Same (treeAt n) n w w′ → Beyond (slotWords * n) w w′
+built-beyond n w w′ C = record { long = C .long; rest = λ k p. C .after k (omega arith) }
+
+-- every first interval stands in the slice, and the tree is built; the code counts n offices
+pub started-all : (m : Map) (o : Offices) (q n i : ℕ) (w : List ℕ) → n ≡ o .count → i ≡ n → Prefix m o q i w → n ≤ mostOffices → slotWords * n ≤ length w
+    → (w′ : List ℕ) → Same (treeAt n) n w w′ → Played w′ (treeAt n) n → StartedAll m o q w′
+started-all m o q n i w e z P few long w′ C Y =
+    let here : Prefix m o q (o .count) w = subst (λ (k : ℕ). Prefix m o q k w) (z ∙ e) P in
+    let C′ : Same (treeAt (o .count)) (o .count) w w′ = subst (λ (k : ℕ). Same (treeAt k) k w w′) e C in
+    let Y′ : Played w′ (treeAt (o .count)) (o .count) = subst (λ (k : ℕ). Played w′ (treeAt k) k) e Y in
+    record {
+      begun = record {
+        slots = here .slots;
+        shown = prefix-shown m o q here (omega arith) (omega arith) w′ C′ Y′;
+        fair = prefix-fair m o q here (omega arith) (omega arith) w′ C′ Y′;
+      };
+      starts = here .begun;
+    }
+
+-- the listing, by what the first intervals come to
+module _ (m : Map) (o : Offices) (q k : ℕ) where
+  pub listing-refused : (e : ℕ) → starts m o q (o .count) ≡ refused e → listing m o q k ≡ refused e
+  unfolding listing
+  listing-refused e r = rw r
+
+  pub listing-started : (ss : List Slot) → starts m o q (o .count) ≡ served ss → listing m o q k ≡ run m o (enough m o k) k (begin ss)
+  unfolding listing
+  listing-started ss r = rw r

@@ -1,0 +1,16 @@
+pub mod Lead
+pub mod Hold
+pub mod Put
+pub mod Going
+pub mod Begun
+pub mod Text
+pub mod Stores
+pub mod Take
+pub mod Steps
+pub mod Replies
+pub mod Offices
+pub mod Advance
+pub mod Progress
+pub mod Arrays
+pub mod Asking
+pub mod Asked
