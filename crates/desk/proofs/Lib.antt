@@ -1,0 +1,2 @@
+pub mod Unfit
+pub mod Served

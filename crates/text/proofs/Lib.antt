@@ -1,0 +1,6 @@
+pub mod Put
+pub mod Digits
+pub mod Fill
+pub mod Lines
+pub mod Short
+pub mod Reply

@@ -1,0 +1,56 @@
+-- `text::put_refusal` meets its contract. Assumes nothing.
+use native.Mathlib.Omega.{arith}
+use borrow.Author.Needs.{needs}
+use Rattle.text.proofs.Put.{put-length, written-byte, written-then}
+use Rattle.text.proofs.Lines.{refusal-parts, refusal-length}
+use Rattle.text.proofs.put_refusal.Statement.{statement}
+use Rattle.text.proofs.put_refusal.Tie as tie
+
+slice-aggregate-put-bytes : tie.Need-slice-aggregate-put-bytes
+slice-aggregate-put-bytes c = search needs
+
+put-bytes-requires : tie.Need-put-bytes-requires
+put-bytes-requires c κs = omega (arith, refusal-length (c .before .before .before .args .number))
+
+put-decimal-requires : tie.Need-put-decimal-requires
+put-decimal-requires c κs =
+    let b = c .before .before .before in
+    let s = b .before .before .before .before in
+    omega (arith, refusal-length (s .args .number), b .put-bytes .ensures .past, put-length (b .put-bytes .ensures .put))
+
+slice-write-out : tie.Need-slice-write-out
+slice-write-out c =
+    let d = c .before .before in
+    let b = d .before .before .before .before in
+    let s = b .before .before .before .before in
+    omega (arith, refusal-length (s .args .number), b .put-bytes .ensures .past, put-length (b .put-bytes .ensures .put), d .put-decimal .ensures .past, put-length (d .put-decimal .ensures .put))
+
+add-result : tie.Need-add-result
+add-result c =
+    let d = c .before .before in
+    let b = d .before .before .before .before in
+    let s = b .before .before .before .before in
+    omega (arith, refusal-length (s .args .number), b .put-bytes .ensures .past, put-length (b .put-bytes .ensures .put), d .put-decimal .ensures .past, put-length (d .put-decimal .ensures .put))
+
+returns : tie.Need-returns
+returns c =
+    let d = c .before .before in
+    let b = d .before .before .before .before in
+    let s = b .before .before .before .before in
+    rw (refusal-parts (s .args .number))
+    (written-then (b .put-bytes .ensures) (written-then (d .put-decimal .ensures) (written-byte _ 10 _ (slice-write-out c))))
+
+same-length : tie.Need-same-length
+same-length c = put-length (returns c .put)
+
+pub put-refusal-spec : {M : Type 1} → statement M
+put-refusal-spec =
+    tie.close
+    (tie.spec
+    slice-aggregate-put-bytes
+    put-bytes-requires
+    put-decimal-requires
+    slice-write-out
+    add-result
+    same-length
+    returns)

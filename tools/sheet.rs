@@ -1,0 +1,127 @@
+//! Turns a sheet written as text into bytes and back, and serves ./ask: the program's input, and its answer in words.
+//! It judges no layout rule, so that faulty sheets can be made too: judging is the check's work.
+
+mod bytes;
+mod refusals;
+mod sections;
+mod text;
+mod words;
+
+use sections::{number, Sheet};
+use std::ffi::OsString;
+use std::io::{self, IsTerminal, Read, Write};
+use std::path::Path;
+use std::process::ExitCode;
+use std::{env, fs};
+
+const USAGE: &str = "\
+usage: ./sheet bytes FILE.txt [OUT]    a sheet written as text, to bytes
+       ./sheet text FILE.sheet [OUT]   a sheet's bytes, to text
+The result goes to the file OUT, or to standard output.
+
+The text has one record to a line, as numbers with spaces between; # begins a comment; blank lines are skipped.
+Four sections in this order, each begun by its word alone on a line, also where it is empty:
+    places     x y
+    stages     tail head length
+    blocks     place code level colour low high
+    offices    place
+Exit status: 0 done; 1 the file is bad; 2 bad usage, or a file that cannot be read or written.
+(./ask uses two more: input SHEET Q K; words SHEET Q, which reads what the program printed.)";
+
+/// What went wrong, and the exit status that tells it.
+struct Failure(u8, String);
+
+const BAD_FILE: u8 = 1;
+const BAD_USAGE: u8 = 2;
+
+/// The exit status of a refusal told in words.
+const REFUSED: u8 = 1;
+
+fn main() -> ExitCode {
+    let arguments: Vec<OsString> = env::args_os().skip(1).collect();
+    match run(&arguments) {
+        Ok(status) => ExitCode::from(status),
+        Err(Failure(status, message)) => {
+            eprintln!("{message}");
+            ExitCode::from(status)
+        }
+    }
+}
+
+fn run(arguments: &[OsString]) -> Result<u8, Failure> {
+    let command = arguments.first().and_then(|word| word.to_str()).unwrap_or("");
+    let paths: Vec<&Path> = arguments.iter().skip(1).map(Path::new).collect();
+    match (command, &paths[..]) {
+        ("bytes", &[file]) if io::stdout().is_terminal() => Err(Failure(
+            BAD_USAGE,
+            format!("bytes are not for the screen: name a file to write, as in ./sheet bytes {} OUT", file.display()),
+        )),
+        ("bytes" | "text", &[file, out]) if file == out => {
+            Err(Failure(BAD_USAGE, format!("{} would be written over itself: name another file", file.display())))
+        }
+        ("bytes", &[file, ref out @ ..]) if out.len() < 2 => put(out, &bytes::write(&from_text(file)?)),
+        ("text", &[file, ref out @ ..]) if out.len() < 2 => put(out, text::write(&from_bytes(file)?).as_bytes()),
+        ("input", &[file, q, k]) => put(&[], &input(file, q, k)?),
+        ("words", &[file, q]) => answer(file, q),
+        _ => Err(Failure(BAD_USAGE, USAGE.to_string())),
+    }
+}
+
+/// Writes to the one file named, or to standard output.
+fn put(out: &[&Path], content: &[u8]) -> Result<u8, Failure> {
+    let (name, done) = match out.first() {
+        Some(file) => (file.display().to_string(), fs::write(file, content)),
+        None => ("standard output".to_string(), io::stdout().write_all(content)),
+    };
+    done.map_err(|error| Failure(BAD_USAGE, format!("{name} cannot be written: {error}")))?;
+    Ok(0)
+}
+
+fn get(file: &Path) -> Result<Vec<u8>, Failure> {
+    fs::read(file).map_err(|error| Failure(BAD_USAGE, format!("{} cannot be read: {error}", file.display())))
+}
+
+fn from_text(file: &Path) -> Result<Sheet, Failure> {
+    // A comment may be in any encoding; what is no number or word is told as it looks.
+    let content = get(file)?;
+    text::read(&String::from_utf8_lossy(&content))
+        .map_err(|(line, fault)| Failure(BAD_FILE, format!("{}, line {line}: {fault}", file.display())))
+}
+
+fn from_bytes(file: &Path) -> Result<Sheet, Failure> {
+    bytes::read(&get(file)?).map_err(|fault| Failure(BAD_FILE, format!("{}: {fault}", file.display())))
+}
+
+fn is_text(file: &Path) -> bool {
+    file.extension().is_some_and(|end| end.eq_ignore_ascii_case("txt"))
+}
+
+/// The number that an argument gives, told by its name where it is none.
+fn argument(name: &str, written: &Path) -> Result<u32, Failure> {
+    number(&written.to_string_lossy()).map_err(|fault| Failure(BAD_USAGE, format!("{name}: {fault}")))
+}
+
+/// The program's input: q and k, then the sheet. Bytes go as they are, so that the program sees their faults.
+fn input(file: &Path, q: &Path, k: &Path) -> Result<Vec<u8>, Failure> {
+    let mut input = bytes::bytes_of(&[argument("Q", q)?, argument("K", k)?]);
+    input.extend(if is_text(file) { bytes::write(&from_text(file)?) } else { get(file)? });
+    Ok(input)
+}
+
+/// Tells what the program printed about a sheet.
+fn answer(file: &Path, q: &Path) -> Result<u8, Failure> {
+    let strange = |printed: &str| Failure(BAD_USAGE, format!("the program printed what is no answer: {printed:?}"));
+    let mut printed = String::new();
+    let q = argument("Q", q)?;
+    io::stdin().read_to_string(&mut printed).map_err(|_| strange("not text"))?;
+    let (text, status) = match words::read(&printed) {
+        Some(words::Answer::Refused(number)) => (words::refused(number), REFUSED),
+        Some(words::Answer::Listed { lines, refinements }) => {
+            let sheet = if is_text(file) { from_text(file)? } else { from_bytes(file)? };
+            (words::listed(&sheet, q, &lines, refinements), 0)
+        }
+        None => (None, BAD_USAGE),
+    };
+    put(&[], text.ok_or(strange(&printed))?.as_bytes())?;
+    Ok(status)
+}
