@@ -1,8 +1,8 @@
--- `trials::cases::bytes_of` meets its contract: it is safe, and ends.
+-- `trials::bytes_of` meets its contract: it is safe, and ends.
 use Prim.Native.Nat.{_-_, _≤_}
 use borrow.Author.Needs.{needs}
-use Rattle.trials.proofs.cases.bytes_of.Statement.{statement}
-use Rattle.trials.proofs.cases.bytes_of.Tie as tie
+use Rattle.trials.proofs.bytes_of.Statement.{statement}
+use Rattle.trials.proofs.bytes_of.Tie as tie
 
 abbrev Inv-loop : tie.InvT-loop
 Inv-loop words bytes₀ i₀ bytes i = (i ≤ 75)

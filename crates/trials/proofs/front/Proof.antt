@@ -1,8 +1,8 @@
--- `trials::cases::front` meets its contract: it is safe, and ends.
+-- `trials::front` meets its contract: it is safe, and ends.
 use Prim.Native.Nat.{_-_, _≤_}
 use borrow.Author.Needs.{needs}
-use Rattle.trials.proofs.cases.front.Statement.{statement}
-use Rattle.trials.proofs.cases.front.Tie as tie
+use Rattle.trials.proofs.front.Statement.{statement}
+use Rattle.trials.proofs.front.Tie as tie
 
 abbrev Inv-loop : tie.InvT-loop
 Inv-loop sheet bytes₀ i₀ bytes i = (i ≤ 292)

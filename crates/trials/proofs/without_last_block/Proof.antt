@@ -1,8 +1,8 @@
--- `trials::cases::without_last_block` meets its contract: it is safe, and ends.
+-- `trials::without_last_block` meets its contract: it is safe, and ends.
 use Prim.Native.Nat.{_-_, _≤_}
 use borrow.Author.Needs.{needs}
-use Rattle.trials.proofs.cases.without_last_block.Statement.{statement}
-use Rattle.trials.proofs.cases.without_last_block.Tie as tie
+use Rattle.trials.proofs.without_last_block.Statement.{statement}
+use Rattle.trials.proofs.without_last_block.Tie as tie
 
 abbrev Inv-loop : tie.InvT-loop
 Inv-loop sheet bytes₀ i₀ bytes i = (i ≤ 276)

@@ -1,10 +1,10 @@
--- `trials::cases::list` meets its contract: it is safe, and ends.
+-- `trials::list` meets its contract: it is safe, and ends.
 use mathlib.Core.Path.{_≡_}
 use Prim.Native.Nat.{_-_, _≤_}
 use borrow.Author.Needs.{needs}
 use lib.ListN.{length}
-use Rattle.trials.proofs.cases.list.Statement.{statement}
-use Rattle.trials.proofs.cases.list.Tie as tie
+use Rattle.trials.proofs.list.Statement.{statement}
+use Rattle.trials.proofs.list.Tie as tie
 
 abbrev Inv-loop : tie.InvT-loop
 Inv-loop answer words i₀ t4 t5 i = (i ≤ words) × (length t4 ≡ 2) × (length t5 ≡ 1)
