@@ -33,7 +33,8 @@ shared-slice-read-if1 c = search needs
 returns : tie.Need-returns Inv-loop μ-loop
 returns c =
     let s = c .before .before .before .before in
-    sym (any-of (s .args .n) (λ u. eqb (getD (s .args .column .now) u 0) far) (c .before .before .before .loop .w) (omega arith) (eq-eqb _ _ (c .if1 .taken)))
+    let w = c .before .before .before .loop .w in
+    sym (any-of (s .args .n) (λ u. eqb (getD (s .args .column .now) u 0) far) w (omega arith) (eq-eqb (getD (s .args .column .now) w 0) far (omega arith)))
 
 add-w : tie.Need-add-w Inv-loop μ-loop
 add-w c = search needs
@@ -42,7 +43,9 @@ loop-less : tie.Need-loop-less Inv-loop μ-loop
 loop-less c = search needs
 
 loop-again : tie.Need-loop-again Inv-loop μ-loop
-loop-again c = (omega arith, any-more _ _ (c .before .before .before .loop .inv .1) (ne-eqb _ _ (c .if1 .left)))
+loop-again c =
+    let l = c .before .before .before .loop in
+    (omega arith, any-more _ _ (l .inv .1) (ne-eqb (getD (c .before .before .before .before .args .column .now) (l .w) 0) far (omega arith)))
 
 returns-2 : tie.Need-returns-2 Inv-loop μ-loop
 returns-2 c =
