@@ -1,10 +1,19 @@
 // The paper's kinds of number, and what several crates hand to each other.
+ghost use mathlib.Core.Path.{_≡_};
+ghost use Prim.Native.Nat.{_^_, _<_};
 
 // Spatial distance, as the crow flies, in sixteenths of a cell.
 pub struct Spatial(pub u32);
 
 // Network distance, along roads, in furlongs.
 pub struct Network(pub u64);
+
+// A length as it stands in a word.
+pub fn furlongs(word: u32) -> Network
+    ensures { λ r. ⌜ (r .0 ≡ word) × (word < 2 ^ 32) ⌝ }
+{
+    Network(word as u64)
+}
 
 // Where a place lies: x and y are 0 to 1,023.
 pub struct Cell {

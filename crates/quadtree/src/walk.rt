@@ -9,8 +9,9 @@ use crate::interval::towards;
 use paper::Counts;
 use paper::Network;
 use paper::Trail;
+use paper::furlongs;
 ghost use mathlib.Core.Path.{_≡_};
-ghost use Prim.Native.Nat.{_≤_, _<_};
+ghost use Prim.Native.Nat.{_^_, _≤_, _<_};
 ghost use Rattle.paper.specs.Sizes.{mostPlaces, walkLimit};
 ghost use Rattle.paper.specs.Sheet.{mapOf};
 ghost use Rattle.paper.specs.Cell.{cell};
@@ -77,11 +78,11 @@ fn stage_of(sheet: &[u8], counts: Counts, first: &[u32], u: usize, b: usize) -> 
 }
 
 // The trail after a stage of the length to the place `via`, whose interval is low to high: the overlap with the old one is kept.
-fn onward(t: Trail, via: usize, length: u32, low: Network, high: Network) -> Trail
-    requires { ⌜ (t .walked .0 ≤ walkLimit) × (t .stages < mostPlaces) × (low .0 ≤ walkLimit) × (high .0 ≤ walkLimit) ⌝ }
-    ensures { λ r. ⌜ trailOf r ≡ ahead (trailOf t) via length (record { low = low .0; high = high .0 }) ⌝ }
+fn onward(t: Trail, via: usize, length: Network, low: Network, high: Network) -> Trail
+    requires { ⌜ (t .walked .0 ≤ walkLimit) × (t .stages < mostPlaces) × (length .0 < 2 ^ 32) × (low .0 ≤ walkLimit) × (high .0 ≤ walkLimit) ⌝ }
+    ensures { λ r. ⌜ trailOf r ≡ ahead (trailOf t) via (length .0) (record { low = low .0; high = high .0 }) ⌝ }
 {
-    let walked = t.walked.0 + length as u64;
+    let walked = t.walked.0 + length.0;
     let near = walked + low.0;
     let far = walked + high.0;
     Trail {
@@ -101,11 +102,11 @@ fn walked_to(
     code: u32,
     t: Trail,
     via: usize,
-    length: u32,
+    length: Network,
 ) -> Step
     requires { ⌜ Ready (now sheet) counts ⌝ }
-    requires { ⌜ (via < counts .places) × (v < counts .places) × (code ≡ cell (mapOf (now sheet)) v) × (Sane (mapOf (now sheet)) (trailOf t)) ⌝ }
-    ensures { λ r. ⌜ r ≡ stepOf (walkedTo (mapOf (now (sheet .entry))) v (trailOf t) via length) ⌝ }
+    requires { ⌜ (via < counts .places) × (v < counts .places) × (code ≡ cell (mapOf (now sheet)) v) × (Sane (mapOf (now sheet)) (trailOf t)) × (length .0 < 2 ^ 32) ⌝ }
+    ensures { λ r. ⌜ r ≡ stepOf (walkedTo (mapOf (now (sheet .entry))) v (trailOf t) via (length .0)) ⌝ }
 {
     let next = towards(sheet, counts, via, v, code);
     match next {
@@ -138,7 +139,15 @@ pub fn refine(
     match cover {
         Cover::By(b) => {
             let i = stage_of(sheet, counts, first, via, b);
-            walked_to(sheet, counts, v, code, t, heads[i] as usize, lengths[i])
+            walked_to(
+                sheet,
+                counts,
+                v,
+                code,
+                t,
+                heads[i] as usize,
+                furlongs(lengths[i]),
+            )
         }
         Cover::Nothing => Step::Refused(17),
     }

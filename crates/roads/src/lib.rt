@@ -4,6 +4,7 @@ use mintree::build;
 use mintree::change;
 use mintree::top;
 use paper::Network;
+use paper::furlongs;
 ghost use mathlib.Core.Path.{_≡_};
 ghost use Prim.Native.Nat.{ℕ, _+_, _≤_, _<_};
 ghost use lib.ListN.{length, getD};
@@ -27,13 +28,6 @@ fn wide(x: u32) -> usize
     ensures { λ r. ⌜ r ≡ x ⌝ }
 {
     x as usize
-}
-
-// A length as it stands in a slice.
-fn network(x: u32) -> Network
-    ensures { λ r. ⌜ r .0 ≡ x ⌝ }
-{
-    Network(x as u64)
 }
 
 // The distance d and a stage more.
@@ -75,7 +69,7 @@ fn lower(column: &mut [u32], words: &mut [u64], n: usize, u: usize, y: Network)
     requires { ⌜ Played (now words) 0 n ⌝ }
     ensures { λ _. ⌜ Lowered n u (y .0) (now (column .entry)) (now (words .entry)) (now (column .exit)) (now (words .exit)) ⌝ }
 {
-    if y.0 < network(column[u]).0 {
+    if y.0 < furlongs(column[u]).0 {
         column[u] = y.0 as u32;
         change(words, 0, n, u, y.0 * PACK + u as u64);
     }

@@ -3,6 +3,7 @@ use crate::slices::USED;
 use paper::Counts;
 use paper::Network;
 use paper::Spatial;
+use paper::furlongs;
 use quadtree::blocks::Cover;
 use quadtree::blocks::block_of;
 use quadtree::blocks::colour_of;
@@ -33,13 +34,6 @@ const RATIO_UNIT: u64 = 1024;
 pub struct Fault {
     pub place: usize,
     pub number: u32,
-}
-
-// A length as it stands in a slice.
-fn network(x: u32) -> Network
-    ensures { λ r. ⌜ (r .0 ≡ x) × (x < 2 ^ 32) ⌝ }
-{
-    Network(x as u64)
 }
 
 // Whether a low ratio is true of the two distances.
@@ -99,7 +93,7 @@ fn colour_holds(
 {
     let i = stage_of(sheet, counts, first, u, b);
     let head = heads[i] as usize;
-    network(lengths[i]).0 + network(column[head]).0 == network(column[u]).0
+    furlongs(lengths[i]).0 + furlongs(column[head]).0 == furlongs(column[u]).0
 }
 
 // What is due for u and v, where the block b of u covers v: 13, 14, or nothing.
@@ -122,7 +116,7 @@ fn block_fault(
     if !colour_holds(sheet, counts, first, heads, lengths, column, u, b) {
         return 13;
     }
-    if !ratios_hold(sheet, counts, b, u, v, network(column[u])) {
+    if !ratios_hold(sheet, counts, b, u, v, furlongs(column[u])) {
         return 14;
     }
     0

@@ -10,16 +10,16 @@ use Rattle.roads.proofs.lower.Tie as tie
 entry : (c : tie.After-struct-known3) → c .before .before .before .before .before .before .before .before .args .y .0 < 2 ^ 32
 entry c =
     let s = c .before .before .before .before .before .before .before .before in
-    omega (arith, c .before .if1 .taken, c .before .before .before .before .network .ensures, c .before .before .before .before .before .slice-known3 .given (s .args .u))
+    omega (arith, c .before .if1 .taken, c .before .before .before .before .furlongs .ensures, c .before .before .before .before .before .slice-known3 .given (s .args .u))
 
-mul-network : tie.Need-mul-network
-mul-network c = search needs
+mul-furlongs : tie.Need-mul-furlongs
+mul-furlongs c = search needs
 
-slice-read-network : tie.Need-slice-read-network
-slice-read-network c = search needs
+slice-read-furlongs : tie.Need-slice-read-furlongs
+slice-read-furlongs c = search needs
 
-network-requires : tie.Need-network-requires
-network-requires c κs = search needs
+furlongs-requires : tie.Need-furlongs-requires
+furlongs-requires c κs = search needs
 
 cast-column : tie.Need-cast-column
 cast-column c = omega (arith, entry c)
@@ -50,20 +50,20 @@ returns c =
     let s = c .before .before .before .before .before .before .before .before .before .before .before .before .before in
     let k = c .before .before .change in
     let less = c .before .before .before .before .before .before in
-    lowered _ _ _ _ _ (s .pre .0 .0) (s .pre .0 .2) (s .pre .1) _ (omega (arith, less .if1 .taken, less .before .before .before .network .ensures)) (k .ensures .0) (k .ensures .1)
+    lowered _ _ _ _ _ (s .pre .0 .0) (s .pre .0 .2) (s .pre .1) _ (omega (arith, less .if1 .taken, less .before .before .before .furlongs .ensures)) (k .ensures .0) (k .ensures .1)
 
 returns-2 : tie.Need-returns-2
 returns-2 c =
     let s = c .before .before .before .before .before .before .before in
-    lowered-not _ _ _ _ _ (s .pre .0 .0) (s .pre .0 .2) (s .pre .1) (omega (arith, c .if1 .left, c .before .before .before .network .ensures))
+    lowered-not _ _ _ _ _ (s .pre .0 .0) (s .pre .0 .2) (s .pre .1) (omega (arith, c .if1 .left, c .before .before .before .furlongs .ensures))
 
 pub lower-spec : {M : Type 1} → statement M
 lower-spec =
     tie.close
     (tie.spec
-    mul-network
-    slice-read-network
-    network-requires
+    mul-furlongs
+    slice-read-furlongs
+    furlongs-requires
     cast-column
     mul-column
     slice-write-column

@@ -9,9 +9,6 @@ use Prim.Native.Nat.{max}
 use Rattle.quadtree.proofs.walk.onward.Statement.{statement}
 use Rattle.quadtree.proofs.walk.onward.Tie as tie
 
-cast-walked : tie.Need-cast-walked
-cast-walked c = search needs
-
 add-walked : tie.Need-add-walked
 add-walked c = search needs
 
@@ -21,16 +18,16 @@ add-near c = search needs
 add-far : tie.Need-add-far
 add-far c = search needs
 
-add-t32 : tie.Need-add-t32
-add-t32 c = search needs
+add-t31 : tie.Need-add-t31
+add-t31 c = search needs
 
 returns : tie.Need-returns
 returns c =
     let a = c .before .before .args in
-    let w : ℕ = a .t .walked .0 + a .length in
-    let low : c .before .if1 .t23 ≡ max (a .t .low .0) (w + a .low .0) = ⊎-elim (λ x. omega arith) (λ x. omega arith) (c .before .if1 .came) in
-    let high : c .if2 .t29 ≡ min (a .t .high .0) (w + a .high .0) = ⊎-elim (λ x. omega arith) (λ x. omega arith) (c .if2 .came) in
+    let w : ℕ = a .t .walked .0 + a .length .0 in
+    let low : c .before .if1 .t22 ≡ max (a .t .low .0) (w + a .low .0) = ⊎-elim (λ x. omega arith) (λ x. omega arith) (c .before .if1 .came) in
+    let high : c .if2 .t28 ≡ min (a .t .high .0) (w + a .high .0) = ⊎-elim (λ x. omega arith) (λ x. omega arith) (c .if2 .came) in
     rw (low, high)
 
 pub onward-spec : {M : Type 1} → statement M
-onward-spec = tie.close (tie.spec cast-walked add-walked add-near add-far add-t32 returns)
+onward-spec = tie.close (tie.spec add-walked add-near add-far add-t31 returns)

@@ -66,30 +66,33 @@ shared-slice-read-walked-to c = omega (arith, under (c .before), begin (c .befor
 cast-walked-to : tie.Need-cast-walked-to
 cast-walked-to c = omega (arith, c .shared-slice-known5 .given (c .before .stage-of .result))
 
-mul-walked-to-2 : tie.Need-mul-walked-to-2
-mul-walked-to-2 c = omega (arith, under (c .before), begin (c .before .before) .pre .1 .0 .to .long)
+mul-furlongs : tie.Need-mul-furlongs
+mul-furlongs c = omega (arith, under (c .before), begin (c .before .before) .pre .1 .0 .to .long)
 
-shared-slice-read-walked-to-2 : tie.Need-shared-slice-read-walked-to-2
-shared-slice-read-walked-to-2 c = omega (arith, under (c .before .before), begin (c .before .before .before) .pre .1 .0 .long .long)
+shared-slice-read-furlongs : tie.Need-shared-slice-read-furlongs
+shared-slice-read-furlongs c = omega (arith, under (c .before .before), begin (c .before .before .before) .pre .1 .0 .long .long)
+
+furlongs-requires : tie.Need-furlongs-requires
+furlongs-requires c κs = search needs
 
 walked-to-requires : tie.Need-walked-to-requires
 walked-to-requires c κs =
-    let s = begin (c .before .before .before) in
+    let d = c .before .before .before in
+    let s = begin (d .before) in
     let e = standing (s .pre .0) .places in
-    let i = c .before .before .stage-of .result in
-    let L = laidAt (c .before .before .before) in
-    let h = L .heads i (under (c .before .before)) in
-    (s .pre .0, (omega (arith, h, s .pre .1 .0 .to .each i (under (c .before .before))), s .pre .1 .1 .0, c .before .before .before .before .before .before .before .code .ensures, s .pre .1 .1 .1))
+    let i = d .stage-of .result in
+    let h = laidAt (d .before) .heads i (under d) in
+    (s .pre .0, (omega (arith, h, s .pre .1 .0 .to .each i (under d)), s .pre .1 .1 .0, d .before .before .before .before .before .code .ensures, s .pre .1 .1 .1, omega (arith, c .furlongs .ensures .0, c .furlongs .ensures .1)))
 
 enum-told : tie.Need-enum-told
 enum-told c = search needs
 
 returns-2 : tie.Need-returns-2
 returns-2 c =
-    let d = c .before .before .before in
+    let d = c .before .before .before .before in
     let s = begin (d .before) in
-    refine-to _ _ _ _ _ _ _ _ (omega (arith, standing (s .pre .0) .places, c .before .before .before .before .before .before .before .before .before .if1 .left)) (covered (d .before)) (d .stage-of .ensures)
-    (s .pre .1 .0 .to .each _ (under d)) (s .pre .1 .0 .long .each _ (under d)) (c .walked-to .ensures)
+    refine-to _ _ _ _ _ _ _ _ (omega (arith, standing (s .pre .0) .places, d .before .before .before .before .before .before .if1 .left)) (covered (d .before)) (d .stage-of .ensures)
+    (s .pre .1 .0 .to .each _ (under d)) (c .before .furlongs .ensures .0 ∙ s .pre .1 .0 .long .each _ (under d)) (c .walked-to .ensures)
 
 returns-3 : tie.Need-returns-3
 returns-3 c =
@@ -110,8 +113,9 @@ refine-spec =
     mul-walked-to
     shared-slice-read-walked-to
     cast-walked-to
-    mul-walked-to-2
-    shared-slice-read-walked-to-2
+    mul-furlongs
+    shared-slice-read-furlongs
+    furlongs-requires
     walked-to-requires
     enum-told
     returns-2

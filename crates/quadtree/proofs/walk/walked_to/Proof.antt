@@ -23,7 +23,7 @@ onward-requires c κs =
     let S = s .pre .1 .3 in
     let L = laid (s .pre .0) (λ i p. c .before .before .before .before .shared-slice-known .given i .fits) in
     let small = ends-within L _ _ (omega (arith, s .pre .1 .0)) (omega (arith, s .pre .1 .1)) _ _ (sym (c .before .next .given .1) ∙ c .before .before .before .towards .ensures) in
-    (S .walked, omega (arith, S .stages, L .places), small .0, small .1)
+    (S .walked, omega (arith, S .stages, L .places), s .pre .1 .4, small .0, small .1)
 
 tested-requires : tie.Need-tested-requires
 tested-requires c κs = search needs

@@ -17,32 +17,32 @@ returns c =
     let a = c .before .before .before .before .before .before .before .args in
     due-13 (mapOf (a .sheet .now)) (a .column .now) (a .u) (a .v) (a .b) (sym (c .before .colour-holds .ensures) ∙ not-true _ (c .if1 .taken))
 
-mul-network : tie.Need-mul-network
-mul-network c = search needs
+mul-furlongs : tie.Need-mul-furlongs
+mul-furlongs c = search needs
 
-shared-slice-read-network : tie.Need-shared-slice-read-network
-shared-slice-read-network c = search needs
+shared-slice-read-furlongs : tie.Need-shared-slice-read-furlongs
+shared-slice-read-furlongs c = search needs
 
-network-requires : tie.Need-network-requires
-network-requires c κs = search needs
+furlongs-requires : tie.Need-furlongs-requires
+furlongs-requires c κs = search needs
 
 ratios-hold-requires : tie.Need-ratios-hold-requires
 ratios-hold-requires c κs =
     let s = c .before .before .before .before .before .before .before .before .before in
-    let n = c .network .ensures in
+    let n = c .furlongs .ensures in
     (s .pre .0, (s .pre .1 .1 .0, s .pre .1 .1 .1, omega (arith, (standing (s .pre .0) .blocks), s .pre .1 .1 .3 .under), omega arith))
 
 returns-2 : tie.Need-returns-2
 returns-2 c =
     let a = c .before .before .before .before .before .before .before .before .before .before .before .args in
     due-14 (mapOf (a .sheet .now)) (a .column .now) (a .u) (a .v) (a .b) (sym (c .before .before .before .before .before .colour-holds .ensures) ∙ not-false _ (c .before .before .before .before .if1 .left))
-    (rw (c .before .before .network .ensures .0) at (sym (c .before .ratios-hold .ensures) ∙ not-true _ (c .if2 .taken)))
+    (rw (c .before .before .furlongs .ensures .0) at (sym (c .before .ratios-hold .ensures) ∙ not-true _ (c .if2 .taken)))
 
 returns-3 : tie.Need-returns-3
 returns-3 c =
     let a = c .before .before .before .before .before .before .before .before .before .before .before .args in
     due-none (mapOf (a .sheet .now)) (a .column .now) (a .u) (a .v) (a .b) (sym (c .before .before .before .before .before .colour-holds .ensures) ∙ not-false _ (c .before .before .before .before .if1 .left))
-    (rw (c .before .before .network .ensures .0) at (sym (c .before .ratios-hold .ensures) ∙ not-false _ (c .if2 .left)))
+    (rw (c .before .before .furlongs .ensures .0) at (sym (c .before .ratios-hold .ensures) ∙ not-false _ (c .if2 .left)))
 
 pub block-fault-spec : {M : Type 1} → statement M
 block-fault-spec =
@@ -50,9 +50,9 @@ block-fault-spec =
     (tie.spec
     colour-holds-requires
     returns
-    mul-network
-    shared-slice-read-network
-    network-requires
+    mul-furlongs
+    shared-slice-read-furlongs
+    furlongs-requires
     ratios-hold-requires
     returns-2
     returns-3)

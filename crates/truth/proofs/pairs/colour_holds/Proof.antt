@@ -32,40 +32,40 @@ shared-slice-read-head c = omega (arith, name (c .before) .head-room)
 cast-head : tie.Need-cast-head
 cast-head c = omega (arith, name (c .before) .head-is, name (c .before) .head-in, room (c .before))
 
-mul-network : tie.Need-mul-network
-mul-network c = omega (arith, name (c .before) .length-room)
+mul-furlongs : tie.Need-mul-furlongs
+mul-furlongs c = omega (arith, name (c .before) .length-room)
 
-shared-slice-read-network : tie.Need-shared-slice-read-network
-shared-slice-read-network c = omega (arith, name (c .before .before) .length-room)
+shared-slice-read-furlongs : tie.Need-shared-slice-read-furlongs
+shared-slice-read-furlongs c = omega (arith, name (c .before .before) .length-room)
 
-network-requires : tie.Need-network-requires
-network-requires c κs = search needs
+furlongs-requires : tie.Need-furlongs-requires
+furlongs-requires c κs = search needs
 
-mul-network-2 : tie.Need-mul-network-2
-mul-network-2 c = omega (arith, name (c .before .before .before) .head-is, name (c .before .before .before) .head-in, room (c .before .before .before))
+mul-furlongs-2 : tie.Need-mul-furlongs-2
+mul-furlongs-2 c = omega (arith, name (c .before .before .before) .head-is, name (c .before .before .before) .head-in, room (c .before .before .before))
 
-shared-slice-read-network-2 : tie.Need-shared-slice-read-network-2
-shared-slice-read-network-2 c = omega (arith, name (c .before .before .before .before) .head-is, name (c .before .before .before .before) .head-in, room (c .before .before .before .before))
+shared-slice-read-furlongs-2 : tie.Need-shared-slice-read-furlongs-2
+shared-slice-read-furlongs-2 c = omega (arith, name (c .before .before .before .before) .head-is, name (c .before .before .before .before) .head-in, room (c .before .before .before .before))
 
-network-requires-2 : tie.Need-network-requires-2
-network-requires-2 c κs = search needs
+furlongs-requires-2 : tie.Need-furlongs-requires-2
+furlongs-requires-2 c κs = search needs
 
 add-result : tie.Need-add-result
-add-result c = omega (arith, c .before .before .network2 .ensures, c .before .before .before .before .network .ensures)
+add-result c = omega (arith, c .before .before .furlongs2 .ensures, c .before .before .before .before .furlongs .ensures)
 
-mul-network-3 : tie.Need-mul-network-3
-mul-network-3 c = omega (arith, room (c .before .before .before .before .before .before .before))
+mul-furlongs-3 : tie.Need-mul-furlongs-3
+mul-furlongs-3 c = omega (arith, room (c .before .before .before .before .before .before .before))
 
-shared-slice-read-network-3 : tie.Need-shared-slice-read-network-3
-shared-slice-read-network-3 c = omega (arith, room (c .before .before .before .before .before .before .before .before))
+shared-slice-read-furlongs-3 : tie.Need-shared-slice-read-furlongs-3
+shared-slice-read-furlongs-3 c = omega (arith, room (c .before .before .before .before .before .before .before .before))
 
-network-requires-3 : tie.Need-network-requires-3
-network-requires-3 c κs = search needs
+furlongs-requires-3 : tie.Need-furlongs-requires-3
+furlongs-requires-3 c κs = search needs
 
 returns : tie.Need-returns
 returns c =
     let a = c .before .before .before .before .before .before .before .before .before .before .before .before .before .before .before .before .args in
-    colour-decides _ (a .heads .now) (a .lengths .now) (a .column .now) _ _ _ _ _ _ (name (c .before .before .before .before .before .before .before .before .before .before)) (c .before .before .before .before .before .before .before .network .ensures .0) (c .before .before .before .before .before .network2 .ensures .0) (c .before .network3 .ensures .0)
+    colour-decides _ (a .heads .now) (a .lengths .now) (a .column .now) _ _ _ _ _ _ (name (c .before .before .before .before .before .before .before .before .before .before)) (c .before .before .before .before .before .before .before .furlongs .ensures .0) (c .before .before .before .before .before .furlongs2 .ensures .0) (c .before .furlongs3 .ensures .0)
 
 pub colour-holds-spec : {M : Type 1} → statement M
 colour-holds-spec =
@@ -75,14 +75,14 @@ colour-holds-spec =
     mul-head
     shared-slice-read-head
     cast-head
-    mul-network
-    shared-slice-read-network
-    network-requires
-    mul-network-2
-    shared-slice-read-network-2
-    network-requires-2
+    mul-furlongs
+    shared-slice-read-furlongs
+    furlongs-requires
+    mul-furlongs-2
+    shared-slice-read-furlongs-2
+    furlongs-requires-2
     add-result
-    mul-network-3
-    shared-slice-read-network-3
-    network-requires-3
+    mul-furlongs-3
+    shared-slice-read-furlongs-3
+    furlongs-requires-3
     returns)
