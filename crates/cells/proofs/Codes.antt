@@ -6,9 +6,9 @@ use mathlib.Core.Path.{_≡_}
 use Rattle.paper.specs.Sizes.{gridSide, topLevel, crowScale, crowMost}
 use Rattle.paper.specs.Map.{Map}
 use Rattle.paper.specs.Cell.{spreadBits, spread, codeOf, cell}
-use Rattle.paper.specs.Crow.{gap, crowAcross, crow}
+use Rattle.paper.specs.Crow.{Root, gap, crowAcross, crow}
 use Rattle.paper.specs.declared.Cell.{Cell}
-use Rattle.paper.proofs.Crow.{Root, root-one, crow-law, gap-le, crow-most}
+use Rattle.paper.proofs.Crow.{root-one, crow-law, gap-le, crow-most}
 use Rattle.cells.specs.Cells.{OnGrid}
 
 -- f bits in every other place are at most 0101..01

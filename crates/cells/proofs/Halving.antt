@@ -3,7 +3,7 @@ use Prim.Native.Nat.{ℕ, suc, _+_, _*_, _-_, _/_, _^_, _≤_, _<_}
 use native.Mathlib.Omega.{arith}
 use native.Mathlib.Nat.{mul-le-mul}
 use mathlib.Core.Path.{_≡_}
-use Rattle.paper.proofs.Crow.{Root}
+use Rattle.paper.specs.Crow.{Root}
 
 -- the root of n is one of the span numbers from r on
 pub record Within (n r span : ℕ) : Type 0 where

@@ -8,9 +8,8 @@ ghost use mathlib.Core.Path.{_≡_};
 ghost use Prim.Native.Nat.{_+_, _*_, _^_, _<_, _≤_};
 ghost use Rattle.paper.specs.Sizes.{gridSide};
 ghost use Rattle.paper.specs.Cell.{spread as spreadOf, codeOf};
-ghost use Rattle.paper.specs.Crow.{gap as gapOf, crowAcross};
+ghost use Rattle.paper.specs.Crow.{Root, gap as gapOf, crowAcross};
 ghost use Rattle.cells.specs.Cells.{OnGrid};
-ghost use Rattle.paper.proofs.Crow.{Root};
 
 // A crow distance counts in sixteenths of a cell, so its square in 256ths of a square cell.
 const CROW_SCALE: u64 = 256;

@@ -9,13 +9,8 @@ use lib.Dec.{leb}
 use borrow.Author.Tests.{leb-true, leb-false}
 use Rattle.paper.specs.Sizes.{gridSide, crowUnit, crowScale, crowMost}
 use Rattle.paper.specs.Map.{Map}
-use Rattle.paper.specs.Crow.{crow, crowAcross, gap, rootFrom}
+use Rattle.paper.specs.Crow.{Root, crow, crowAcross, gap, rootFrom}
 use Rattle.paper.proofs.LaidOut.{LaidOut}
-
--- r is the largest number whose square is at most n
-pub record Root (n r : ℕ) : Type 0 where
-  pub square : r * r ≤ n
-  pub next : n < suc r * suc r
 
 root-below : {n r r′ : ℕ} → Root n r → Root n r′ → r < r′ → ⊥
 root-below {r} {r′} R S p = omega (arith, R .next, S .square, mul-le-mul p p)

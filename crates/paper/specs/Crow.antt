@@ -1,5 +1,5 @@
 -- The crow distance.
-use Prim.Native.Nat.{ℕ, zero, suc, _+_, _*_, _-_}
+use Prim.Native.Nat.{ℕ, zero, suc, _+_, _*_, _-_, _≤_, _<_}
 use mathlib.Core.Bool.{true, false}
 use lib.Dec.{leb}
 use Rattle.paper.specs.Sizes.{crowUnit, crowScale}
@@ -8,6 +8,11 @@ use Rattle.paper.specs.Map.{Map}
 -- how far apart two coordinates are
 unfoldable pub gap : ℕ → ℕ → ℕ
 gap a b = (a - b) + (b - a)
+
+-- r is the largest whole number whose square is at most n
+pub record Root (n r : ℕ) : Type 0 where
+  pub square : r * r ≤ n
+  pub next : n < suc r * suc r
 
 -- the largest whole number from r down whose square is at most n
 unfoldable pub rootFrom : ℕ → ℕ → ℕ

@@ -1,4 +1,6 @@
 // The paper's kinds of number, and what several crates hand to each other.
+pub mod sizes;
+
 ghost use mathlib.Core.Path.{_≡_};
 ghost use Prim.Native.Nat.{_^_, _<_};
 
