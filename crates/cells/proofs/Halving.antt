@@ -1,18 +1,19 @@
 -- The loop that finds a root: it halves the span in which the root lies.
-use Prim.Native.Nat.{ℕ, suc, _+_, _*_, _-_, _/_, _^_, _≤_, _<_}
+use Prim.Native.Nat.{ℕ, suc, _+_, _*_, _-_, _/_, _≤_, _<_}
 use native.Mathlib.Omega.{arith}
 use native.Mathlib.Nat.{mul-le-mul}
 use mathlib.Core.Path.{_≡_}
 use Rattle.paper.specs.Crow.{Root}
+use Rattle.cells.specs.Cells.{rootLimit}
 
 -- the root of n is one of the span numbers from r on
 pub record Within (n r span : ℕ) : Type 0 where
   pub some : 1 ≤ span
-  pub under : r + span ≤ 2 ^ 17
+  pub under : r + span ≤ rootLimit
   pub from : r * r ≤ n
   pub to : n < (r + span) * (r + span)
 
-pub within-all : (n : ℕ) → n < 2 ^ 34 → Within n 0 131072
+pub within-all : (n : ℕ) → n < rootLimit * rootLimit → Within n 0 rootLimit
 within-all n h = omega arith
 
 -- the middle's square is at most n, or above it
@@ -32,5 +33,5 @@ within-one n r span W h =
     record { square = W .from; next = rw e at (W .to) }
 
 -- the middle's square does not wrap
-pub square-fits : (n r span : ℕ) → Within n r span → (r + span / 2) * (r + span / 2) ≤ 2 ^ 34
-square-fits n r span W = let l : r + span / 2 ≤ 2 ^ 17 = omega (arith, W .under) in omega (arith, mul-le-mul l l)
+pub square-fits : (n r span : ℕ) → Within n r span → (r + span / 2) * (r + span / 2) ≤ rootLimit * rootLimit
+square-fits n r span W = let l : r + span / 2 ≤ rootLimit = omega (arith, W .under) in mul-le-mul l l

@@ -1,4 +1,6 @@
--- `Spreads` turns the test of the spread table into its rule, `Codes` has the laws of codes and crow distances for callers, and `Halving` those of the root's loop.
+-- `Spreads` turns the test of the spread table into its rule, `Codes` has the laws of codes and crow distances for callers, `Fours` has powers of four
+-- by shifts and masks, and `Halving` the loop that finds a root.
 pub mod Spreads
 pub mod Codes
+pub mod Fours
 pub mod Halving

@@ -1,21 +1,23 @@
 // The code of a cell, and the crow distance between two cells.
 use paper::Cell;
 use paper::Spatial;
+use paper::sizes::CROW_UNIT;
+use paper::sizes::GRID_SIDE;
 
 mod table;
 
 ghost use mathlib.Core.Path.{_≡_};
-ghost use Prim.Native.Nat.{_+_, _*_, _^_, _<_, _≤_};
-ghost use Rattle.paper.specs.Sizes.{gridSide};
+ghost use Prim.Native.Nat.{_*_, _^_, _<_, _≤_};
+ghost use Rattle.paper.specs.Sizes.{gridSide, topLevel};
 ghost use Rattle.paper.specs.Cell.{spread as spreadOf, codeOf};
 ghost use Rattle.paper.specs.Crow.{Root, gap as gapOf, crowAcross};
-ghost use Rattle.cells.specs.Cells.{OnGrid};
+ghost use Rattle.cells.specs.Cells.{OnGrid, rootLimit};
 
-// A crow distance counts in sixteenths of a cell, so its square in 256ths of a square cell.
-const CROW_SCALE: u64 = 256;
+// A crow distance counts in parts of a cell's side, so its square in squares of them.
+const CROW_SCALE: u64 = CROW_UNIT * CROW_UNIT;
 
-// Every root that is asked for is below it.
-const ROOT_LIMIT: u64 = 131_072;
+// Every root that is asked for is below it: a crow distance is at most the sum of two gaps, each below the grid's side.
+const ROOT_LIMIT: u64 = CROW_UNIT * (2 * GRID_SIDE as u64);
 
 // Bit b of x at bit 2b.
 pub fn spread(x: u32) -> u32
@@ -33,6 +35,14 @@ pub fn code(c: Cell) -> u32
     spread(c.x) + 2 * spread(c.y)
 }
 
+// How many cells a block of the level covers.
+pub fn cells_under(level: u32) -> u32
+    requires { ⌜ level ≤ topLevel ⌝ }
+    ensures { λ r. ⌜ r ≡ 4 ^ level ⌝ }
+{
+    1 << (2 * level)
+}
+
 // How far apart two coordinates are.
 fn gap(a: u32, b: u32) -> u64
     ensures { λ r. ⌜ r ≡ gapOf a b ⌝ }
@@ -46,7 +56,7 @@ fn gap(a: u32, b: u32) -> u64
 
 // The largest number whose square is at most n. It lies from `root` on, among the next `span` numbers.
 fn root(n: u64) -> u64
-    requires { ⌜ n < 2 ^ 34 ⌝ }
+    requires { ⌜ n < rootLimit * rootLimit ⌝ }
     ensures { λ r. ⌜ Root n r ⌝ }
 {
     let mut root = 0;

@@ -1,5 +1,7 @@
 // The spread of every coordinate: bit b of the index stands at bit 2b of the entry.
-pub const SPREAD: [u32; 1024] = [
+use paper::sizes::GRID_SIDE;
+
+pub const SPREAD: [u32; GRID_SIDE as usize] = [
     0,
     1,
     4,

@@ -1,5 +1,4 @@
 -- `cells::root` meets its contract. The invariant: the root is one of the next `span` numbers. The measure is `span`.
-use Prim.Native.Nat.{ℕ}
 use mathlib.Core.Logic.{⊎-elim}
 use native.Mathlib.Omega.{arith}
 use borrow.Author.Needs.{needs}
@@ -20,7 +19,7 @@ add-middle : tie.Need-add-middle Inv-loop μ-loop
 add-middle c = search needs
 
 mul-if1 : tie.Need-mul-if1 Inv-loop μ-loop
-mul-if1 c = let i = c .before .loop in omega (arith, square-fits _ _ _ (i .inv))
+mul-if1 c = omega (arith, square-fits _ _ _ (c .before .loop .inv))
 
 sub-span : tie.Need-sub-span Inv-loop μ-loop
 sub-span c = search needs
@@ -31,14 +30,13 @@ loop-less c = search needs
 loop-again : tie.Need-loop-again Inv-loop μ-loop
 loop-again c =
     let i = c .before .before .loop in
-    let n : ℕ = c .before .before .before .args .n in
     ⊎-elim
-    (λ w. rw (w .1) (within-above n (i .root) (i .span) (i .inv) (omega arith) (omega (arith, w .0 .taken))))
-    (λ w. rw (w .1) (within-below n (i .root) (i .span) (i .inv) (omega arith) (omega (arith, w .0 .left))))
+    (λ w. rw (w .1) (within-above _ _ _ (i .inv) (omega arith) (w .0 .taken)))
+    (λ w. rw (w .1) (within-below _ _ _ (i .inv) (omega arith) (w .0 .left)))
     (c .if1 .came)
 
 returns : tie.Need-returns Inv-loop μ-loop
-returns c = let i = c .before .loop in within-one _ (i .root) (i .span) (i .inv) (omega arith)
+returns c = within-one _ _ _ (c .before .loop .inv) (omega arith)
 
 pub root-spec : {M : Type 1} → statement M
 root-spec =
