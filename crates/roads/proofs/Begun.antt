@@ -11,7 +11,7 @@ use Rattle.mintree.specs.Mintree.{Played, Same}
 use Rattle.paper.specs.Sizes.{mostPlaces}
 use Rattle.paper.specs.Map.{Map}
 use Rattle.paper.specs.Road.{arrived}
-use Rattle.roads.specs.Chain.{Untouched}
+use Rattle.paper.specs.Slice.{Untouched}
 use Rattle.roads.specs.Towards.{far}
 use Rattle.roads.specs.Search.{packed, wordOf, Done, Halfway, Sound}
 use Rattle.roads.proofs.Stores.{set-more}

@@ -6,7 +6,8 @@ use native.Mathlib.Decide.{ℕ-discrete}
 use native.Mathlib.Omega.{arith}
 use lib.ListN.{length, getD, set, length-set}
 use lib.Seq.{getD-set-same, getD-set-other}
-use Rattle.roads.specs.Chain.{Untouched, Latest, Starts, GoesOn, Chainable, Chained}
+use Rattle.paper.specs.Slice.{Untouched}
+use Rattle.roads.specs.Chain.{Latest, Starts, GoesOn, Chainable, Chained}
 
 -- last₀ and previous₀ are the slices where the loop begins, with no stage in a chain yet
 pub record Linked (heads : List ℕ) (n i : ℕ) (last₀ previous₀ last previous : List ℕ) : Type 0 where

@@ -4,10 +4,7 @@ use mathlib.Core.List.{List}
 use Prim.Native.Nat.{ℕ, _+_, _≤_, _<_}
 use lib.ListN.{length, getD}
 use Rattle.paper.specs.Sizes.{mostStages}
-
--- the words from n on are as they were
-abbrev pub Untouched : ℕ → List ℕ → List ℕ → Type 0
-Untouched n a b = (k : ℕ) → n ≤ k → getD b k 0 ≡ getD a k 0
+use Rattle.paper.specs.Slice.{Untouched}
 
 -- b is one more than the number of the last stage into w among the first k, or 0 where there is none
 pub record Latest (head : ℕ → ℕ) (w k b : ℕ) : Type 0 where

@@ -5,14 +5,15 @@ use mathlib.Core.List.{List}
 use Prim.Native.Nat.{ℕ, _+_, _*_, _≤_, _<_, min}
 use lib.ListN.{length, getD}
 use Rattle.mintree.specs.Mintree.{Played, leaf}
+use Rattle.paper.specs.Sizes.{mostPlaces}
 use Rattle.paper.specs.Map.{Map}
 use Rattle.paper.specs.Road.{Road}
-use Rattle.roads.specs.Chain.{Untouched}
+use Rattle.paper.specs.Slice.{Untouched}
 use Rattle.roads.specs.Towards.{far}
 
 -- a place's number is the last part of its word, and below this
 abbrev pub pack : ℕ
-pack = 4096
+pack = mostPlaces
 
 -- the word of the place u at the length t: in the order of lengths, and of numbers where those are equal
 abbrev pub packed : ℕ → ℕ → ℕ

@@ -5,24 +5,29 @@ use mintree::change;
 use mintree::top;
 use paper::Network;
 use paper::furlongs;
+use paper::sizes::MOST_PLACES;
 ghost use mathlib.Core.Path.{_≡_};
 ghost use Prim.Native.Nat.{ℕ, _+_, _≤_, _<_};
 ghost use lib.ListN.{length, getD};
-ghost use Rattle.paper.specs.Sizes.{mostPlaces};
+ghost use Rattle.paper.specs.Sizes.{mostPlaces, mostFurlongs};
 ghost use Rattle.paper.specs.Map.{Map};
+ghost use Rattle.paper.specs.Slice.{Untouched};
 ghost use Rattle.mintree.specs.Mintree.{Played};
-ghost use Rattle.roads.specs.Chain.{Untouched, Chainable, Chained, Starts, GoesOn};
+ghost use Rattle.roads.specs.Chain.{Chainable, Chained, Starts, GoesOn};
 ghost use Rattle.roads.specs.Towards.{far, Towards, Ready, Entered, Lists};
 ghost use Rattle.roads.specs.Search.{Lowered, Halfway, After, Sound, Visit};
 
-// The length of a place from which no road is known.
-const FAR: u32 = 2147483647;
-// A place's word in the min-tree is its length * PACK + its number.
-const PACK: u64 = 4096;
+// The length of a place from which no road is known: above every road distance.
+pub const FAR: u32 = 2_147_483_647;
+
+// A place's word in the min-tree is its length * PACK + its number, which is below PACK.
+const PACK: u64 = MOST_PLACES as u64;
+
 // The word of a place that is settled, or from which no road is known, but for the number.
 const NONE: u64 = FAR as u64 * PACK;
-// Two words in the min-tree for each of the 1,024 places.
-const WORDS: usize = 2048;
+
+// Two words in the min-tree for each place.
+const WORDS: usize = 2 * MOST_PLACES;
 
 fn wide(x: u32) -> usize
     ensures { λ r. ⌜ r ≡ x ⌝ }
@@ -31,11 +36,11 @@ fn wide(x: u32) -> usize
 }
 
 // The distance d and a stage more.
-fn onward(d: Network, furlongs: u32) -> Network
-    requires { ⌜ d .0 < far ⌝ }
-    ensures { λ r. ⌜ r .0 ≡ d .0 + furlongs ⌝ }
+fn onward(d: Network, stage: Network) -> Network
+    requires { ⌜ (d .0 < far) × (stage .0 ≤ mostFurlongs) ⌝ }
+    ensures { λ r. ⌜ r .0 ≡ d .0 + stage .0 ⌝ }
 {
-    Network(d.0 + furlongs as u64)
+    Network(d.0 + stage.0)
 }
 
 // The first n words are 0.
@@ -95,7 +100,13 @@ fn spread(
     let mut j = from;
     while j > 0 {
         let i = j - 1;
-        lower(column, words, n, wide(tails[i]), onward(d, lengths[i]));
+        lower(
+            column,
+            words,
+            n,
+            wide(tails[i]),
+            onward(d, furlongs(lengths[i])),
+        );
         j = wide(previous[i]);
     }
 }

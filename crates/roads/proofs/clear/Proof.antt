@@ -5,7 +5,7 @@ use native.Mathlib.Omega.{arith}
 use borrow.Author.Needs.{needs}
 use lib.ListN.{length, getD}
 use lib.Seq.{getD-set-other}
-use Rattle.roads.specs.Chain.{Untouched}
+use Rattle.paper.specs.Slice.{Untouched}
 use Rattle.roads.proofs.Stores.{set-more}
 use Rattle.roads.proofs.clear.Statement.{statement}
 use Rattle.roads.proofs.clear.Tie as tie

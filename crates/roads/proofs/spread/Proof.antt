@@ -1,6 +1,6 @@
 -- `roads::spread` meets its contract. The invariant: what `spread` ensures, with j for 0. The measure is j, since a chain goes down.
-use mathlib.Core.Path.{_≡_, refl, _∙_}
-use Prim.Native.Nat.{ℕ, _-_, _<_, _≤_}
+use mathlib.Core.Path.{_≡_, refl, ap, _∙_}
+use Prim.Native.Nat.{ℕ, _+_, _-_, _<_, _≤_}
 use native.Mathlib.Omega.{arith}
 use borrow.Author.Needs.{needs}
 use lib.ListN.{length, getD}
@@ -8,7 +8,7 @@ use Rattle.paper.specs.Map.{Map}
 use Rattle.roads.specs.Chain.{GoesOn}
 use Rattle.roads.specs.Towards.{far, Lists}
 use Rattle.roads.specs.Search.{After, Visit}
-use Rattle.paper.specs.Sizes.{mostPlaces}
+use Rattle.paper.specs.Sizes.{mostPlaces, mostFurlongs}
 use Rattle.roads.proofs.Steps.{after-none, after-then, turn-after, turn-visit}
 use Rattle.roads.proofs.spread.Statement.{statement}
 use Rattle.roads.proofs.spread.Tie as tie
@@ -21,25 +21,38 @@ Inv-loop tails lengths previous n from d column₀ w₀ j₀ column w j =
 abbrev μ-loop : tie.MeasureT-loop
 μ-loop tails lengths previous n from d column₀ w₀ j₀ column w j = j
 
+-- the ways back: from the loop to the start, from the tail that is read to the turn's start, from the length to the tail, from what follows to `lower`
+abbrev begin : tie.After-slice-known2 Inv-loop μ-loop → tie.Start Inv-loop μ-loop
+begin c = c .before .before .before .before .before
+
+abbrev turn : tie.After-wide Inv-loop μ-loop → tie.In-loop Inv-loop μ-loop
+turn c = c .before .before .before .before
+
+abbrev tail : tie.After-onward Inv-loop μ-loop → tie.After-wide Inv-loop μ-loop
+tail c = c .before .before .before
+
+abbrev low : tie.After-slice-known4 Inv-loop μ-loop → tie.After-lower Inv-loop μ-loop
+low c = c .before .before .before .before
+
 -- in a turn: what the stage's number is below, and the bounds of what stands there
 abbrev Room : tie.In-loop Inv-loop μ-loop → Type 0
 Room c =
-    let s = c .before .before .before .before .before .before .before .args in
+    let s = begin (c .before .before) .args in
     let i = c .before .loop .j - 1 in
     (0 < c .before .loop .j) × (i < length (s .tails .now)) × (i < length (s .lengths .now)) × (i < length (s .previous .now)) × (getD (s .tails .now) i 0 < s .n)
-    × (getD (s .previous .now) i 0 ≤ i) × (s .n ≤ mostPlaces) × (s .n ≤ length (c .before .loop .column)) × (s .d .0 < far)
+    × (getD (s .lengths .now) i 0 ≤ mostFurlongs) × (getD (s .previous .now) i 0 ≤ i) × (s .n ≤ mostPlaces) × (s .n ≤ length (c .before .loop .column)) × (s .d .0 < far)
 
 room : (c : tie.In-loop Inv-loop μ-loop) → Room c
 room c =
-    let R = c .before .before .before .before .before .before .before .pre .0 in
+    let R = begin (c .before .before) .pre .0 in
     let l = c .before .loop in
     let i = l .j - 1 in
     let some : 0 < l .j = omega (arith, c .loop-test .taken) in
-    let h : i < length (c .before .before .before .before .before .before .before .args .tails .now) = omega (arith, l .inv .0) in
-    (some, h, omega (arith, R .lengths-long), omega (arith, R .previous-long), R .tail-in i h, R .down i h, R .few, l .inv .3 .halfway .long, l .inv .3 .halfway .near)
+    let h : i < length (begin (c .before .before) .args .tails .now) = omega (arith, l .inv .0) in
+    (some, h, omega (arith, R .lengths-long), omega (arith, R .previous-long), R .tail-in i h, R .furlongs-high i h, R .down i h, R .few, l .inv .3 .halfway .long, l .inv .3 .halfway .near)
 
 loop-holds : tie.Need-loop-holds Inv-loop μ-loop
-loop-holds c = (c .before .before .before .before .before .pre .1 .0, refl, refl, after-none _ _ _ _ (c .before .before .before .before .before .pre .1 .1), λ m v p K G Q. Q)
+loop-holds c = let p = begin c .pre .1 in (p .0, refl, refl, after-none _ _ _ _ (p .1), λ m v p K G Q. Q)
 
 sub-i : tie.Need-sub-i Inv-loop μ-loop
 sub-i c = search needs
@@ -48,51 +61,56 @@ mul-wide : tie.Need-mul-wide Inv-loop μ-loop
 mul-wide c = omega (arith, room (c .before .before))
 
 shared-slice-read-wide : tie.Need-shared-slice-read-wide Inv-loop μ-loop
-shared-slice-read-wide c = omega (arith, room (c .before .before .before))
+shared-slice-read-wide c = search needs
 
 wide-requires : tie.Need-wide-requires Inv-loop μ-loop
 wide-requires c κs = search needs
 
-mul-onward : tie.Need-mul-onward Inv-loop μ-loop
-mul-onward c = omega (arith, room (c .before .before .before .before))
+mul-furlongs : tie.Need-mul-furlongs Inv-loop μ-loop
+mul-furlongs c = omega (arith, room (turn c))
 
-shared-slice-read-onward : tie.Need-shared-slice-read-onward Inv-loop μ-loop
-shared-slice-read-onward c = omega (arith, room (c .before .before .before .before .before))
+shared-slice-read-furlongs : tie.Need-shared-slice-read-furlongs Inv-loop μ-loop
+shared-slice-read-furlongs c = omega (arith, room (turn (c .before)))
+
+furlongs-requires : tie.Need-furlongs-requires Inv-loop μ-loop
+furlongs-requires c κs = search needs
 
 onward-requires : tie.Need-onward-requires Inv-loop μ-loop
-onward-requires c κs = omega (arith, room (c .before .before .before .before .before))
+onward-requires c κs = omega (arith, room (turn (c .before .before)), c .furlongs .ensures)
 
 lower-requires : tie.Need-lower-requires Inv-loop μ-loop
 lower-requires c κs =
-    let q = room (c .before .before .before .before .before .before) in
-    let e = c .before .before .wide .ensures in
-    ((omega arith, omega arith, omega arith), c .before .before .before .before .before .before .before .loop .inv .3 .halfway .played)
+    let w = tail c in
+    let q = room (turn w) in
+    let e = w .wide .ensures in
+    ((omega arith, omega arith, omega arith), turn w .before .loop .inv .3 .halfway .played)
 
 mul-wide-2 : tie.Need-mul-wide-2 Inv-loop μ-loop
-mul-wide-2 c = omega (arith, room (c .before .before .before .before .before .before .before .before .before .before .before))
+mul-wide-2 c = omega (arith, room (turn (tail (low c .before))))
 
 shared-slice-read-wide-2 : tie.Need-shared-slice-read-wide-2 Inv-loop μ-loop
-shared-slice-read-wide-2 c = omega (arith, room (c .before .before .before .before .before .before .before .before .before .before .before .before))
+shared-slice-read-wide-2 c = omega (arith, room (turn (tail (low (c .before) .before))))
 
 wide-requires-2 : tie.Need-wide-requires-2 Inv-loop μ-loop
 wide-requires-2 c κs = search needs
 
 loop-less : tie.Need-loop-less Inv-loop μ-loop
-loop-less c = omega (arith, room (c .before .before .before .before .before .before .before .before .before .before .before .before .before), c .wide2 .ensures)
+loop-less c = omega (arith, room (turn (tail (low (c .before .before) .before))), c .wide2 .ensures)
 
 loop-again : tie.Need-loop-again Inv-loop μ-loop
 loop-again c =
-    let k = c .before .before .before .before .before .before in
-    let y-is = k .before .onward .ensures in
-    let u-is = k .before .before .before .wide .ensures in
-    let t = k .before .before .before .before .before .before .before in
+    let k = low (c .before .before) in
+    let w = tail (k .before) in
+    let t = turn w in
     let l = t .before .loop in
-    let s = t .before .before .before .before .before .before .before in
-    let q = room t in
+    let s = begin (t .before .before) in
+    let R = s .pre .0 in
+    let some = room t .0 in
+    let y-is = k .before .onward .ensures ∙ ap (λ (x : ℕ). s .args .d .0 + x) (k .before .before .furlongs .ensures .0) in
     let next-is = c .wide2 .ensures in
-    let A = turn-after _ _ _ _ _ _ _ _ _ _ _ _ _ (s .pre .0) (q .0) (l .inv .0) (l .inv .3 .halfway) u-is y-is next-is (k .lower .kept .0) (k .lower .ensures) in
-    let F = turn-visit _ _ _ _ _ _ _ _ _ _ _ _ _ (s .pre .0) (q .0) (l .inv .0) (l .inv .3 .halfway) u-is y-is next-is (k .lower .kept .0) (k .lower .ensures) in
-    (omega (arith, next-is), k .lower .kept .0 ∙ l .inv .1, k .lower .kept .1 .0 ∙ l .inv .2, after-then _ _ _ _ _ _ _ _ _ _ (l .inv .3) A, λ m v p K G Q. F m v p K G (l .inv .4 m v p K G Q))
+    let A = turn-after _ _ _ _ _ _ _ _ _ _ _ _ _ R some (l .inv .0) (l .inv .3 .halfway) (w .wide .ensures) y-is next-is (k .lower .kept .0) (k .lower .ensures) in
+    let F = turn-visit _ _ _ _ _ _ _ _ _ _ _ _ _ R some (l .inv .0) (l .inv .3 .halfway) (w .wide .ensures) y-is next-is (k .lower .kept .0) (k .lower .ensures) in
+    (omega (arith, next-is, room t), k .lower .kept .0 ∙ l .inv .1, k .lower .kept .1 .0 ∙ l .inv .2, after-then _ _ _ _ _ _ _ _ _ _ (l .inv .3) A, λ m v p K G Q. F m v p K G (l .inv .4 m v p K G Q))
 
 same-length : tie.Need-same-length Inv-loop μ-loop
 same-length c = search needs
@@ -117,8 +135,9 @@ spread-spec =
     mul-wide
     shared-slice-read-wide
     wide-requires
-    mul-onward
-    shared-slice-read-onward
+    mul-furlongs
+    shared-slice-read-furlongs
+    furlongs-requires
     onward-requires
     lower-requires
     mul-wide-2
