@@ -44,7 +44,10 @@ blank-step n u column₀ w₀ column w B l = record {
   past = λ k h. getD-set-other column u k far 0 (omega arith) ∙ B .past k h;
 }
 
-module _ (n v : ℕ) (column₀ w₀ column w w′ : List ℕ) (B : Blank n n column₀ w₀ column w) (v-in : v < n) (S : Same 0 n (set w (n + v) v) w′) (P : Played w′ 0 n) where
+pub blank-end : {n u : ℕ} {column₀ w₀ column w : List ℕ} → Blank n u column₀ w₀ column w → n ≤ u → Blank n n column₀ w₀ column w
+blank-end {n} {u} B h = let e : u ≡ n = omega (arith, B .upto) in rw e at B
+
+module _ {n v : ℕ} {column₀ w₀ column w w′ : List ℕ} (B : Blank n n column₀ w₀ column w) (v-in : v < n) (S : Same 0 n (set w (n + v) v) w′) (P : Played w′ 0 n) where
   begun-word : wordOf w′ n v ≡ v
   begun-word =
       let e : 0 + (n + v) ≡ n + v = omega arith in

@@ -145,7 +145,7 @@ pub record Settling (tails lengths last previous : List ℕ) (n : ℕ) (column�
 pub settling-start : (tails lengths last previous : List ℕ) (n : ℕ) (column w : List ℕ) → Halfway n 0 column w → Settling tails lengths last previous n column w column w
 settling-start tails lengths last previous n column w H = record { d = 0; column-long = refl; w-long = refl; after = after-none n 0 column w H; sound = λ m v K T G S. S }
 
-module _ (tails lengths last previous : List ℕ) (n : ℕ) (column₀ w₀ column w : List ℕ) (r : ℕ) (R : Ready tails lengths previous n) (K : Settling tails lengths last previous n column₀ w₀ column w) (L : Least w 0 n r) where
+module _ {tails lengths last previous : List ℕ} {n : ℕ} {column₀ w₀ column w : List ℕ} {r : ℕ} (R : Ready tails lengths previous n) (K : Settling tails lengths last previous n column₀ w₀ column w) (L : Least w 0 n r) where
   pub settling-end : far * pack ≤ r → (m : Map) (v : ℕ) → Lists m tails lengths n → Starts (m .head) n (m .stages) last → GoesOn (m .head) (m .stages) previous → Sound m n v 0 0 0 column₀ w₀ → Towards m n v (λ u. getD column u 0)
   settling-end none m v M T G S =
       all-near n (K .d) column w r (R .few) (K .after .halfway) L none m v 0 (K .sound m v M T G S)
@@ -157,11 +157,11 @@ module _ (tails lengths last previous : List ℕ) (n : ℕ) (column₀ w₀ colu
     pub next-in : r % pack < n
     next-in = at-in n (K .d) column w r (R .few) (K .after .halfway) L some
 
-    module _ (w₁ : List ℕ) (S₁ : Same 0 n (set w (0 + (n + r % pack)) (packed far (r % pack))) w₁) (P₁ : Played w₁ 0 n) where
+    module _ {w₁ : List ℕ} (S₁ : Same 0 n (set w (0 + (n + r % pack)) (packed far (r % pack))) w₁) (P₁ : Played w₁ 0 n) where
       pub next-after : After n (K .d) column w (r / pack) column w₁
       next-after = taken n (K .d) column w r (R .few) (K .after .halfway) L some (r % pack) refl w₁ S₁ P₁
 
-      module _ (from : ℕ) (from-is : from ≡ getD last (r % pack) 0) (column′ w′ : List ℕ) (A : After n (r / pack) column w₁ (r / pack) column′ w′) where
+      module _ {from : ℕ} (from-is : from ≡ getD last (r % pack) 0) {column′ w′ : List ℕ} (A : After n (r / pack) column w₁ (r / pack) column′ w′) where
         pub settling-less : left n column′ w′ < left n column w
         settling-less =
             fewer n (K .d) column w (r / pack) column′ w′ (K .after .halfway) (after-then n (K .d) column w (r / pack) column w₁ (r / pack) column′ w′ next-after A) (r % pack) next-in

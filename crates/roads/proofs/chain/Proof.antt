@@ -15,13 +15,20 @@ Inv-loop heads n last₀ previous₀ i₀ i-end last previous i = (i-end ≡ len
 abbrev μ-loop : tie.MeasureT-loop
 μ-loop heads n last₀ previous₀ i₀ i-end last previous i = i-end - i
 
+-- the ways back: from the loop to `clear`, and from there to the start
+abbrev emptied : tie.At-loop Inv-loop μ-loop → tie.After-clear Inv-loop μ-loop
+emptied c = c .before .before .before
+
+abbrev begin : tie.After-clear Inv-loop μ-loop → tie.Start Inv-loop μ-loop
+begin c = c .before .before .before .before .before
+
 -- in a turn: the stage's number, and its head
-room : (c : tie.In-loop Inv-loop μ-loop) → let l = c .before .loop in let h = c .before .before .before .before .before .before .before .before .before .args .heads .now in
+room : (c : tie.In-loop Inv-loop μ-loop) → let l = c .before .loop in let h = begin (emptied (c .before)) .args .heads .now in
     (l .i < length h) × (length h ≤ length (l .previous)) × (length h ≤ mostStages) × (getD h (l .i) 0 < length (l .last))
 room c =
     let l = c .before .loop in
     let k = l .inv .3 .fit in
-    let h : l .i < length (c .before .before .before .before .before .before .before .before .before .args .heads .now) = omega (arith, l .inv .0, c .loop-test .taken) in
+    let h : l .i < length (begin (emptied (c .before)) .args .heads .now) = omega (arith, l .inv .0, c .loop-test .taken) in
     (h, k .stages, k .few, omega (arith, k .places, k .head-in (l .i) h))
 
 clear-requires : tie.Need-clear-requires Inv-loop μ-loop
@@ -29,9 +36,8 @@ clear-requires c κs = search needs
 
 loop-holds : tie.Need-loop-holds Inv-loop μ-loop
 loop-holds c =
-    let s = c .before .before .before .before .before .before .before in
     let k = c .before .before .clear in
-    let fit = s .pre in
+    let fit = begin (c .before .before) .pre in
     (refl, refl, refl, linked-start _ _ _ _ (record { few = fit .few; places = omega (arith, k .kept .0, fit .places); stages = fit .stages; head-in = fit .head-in }) (k .ensures .0))
 
 mul-w : tie.Need-mul-w Inv-loop μ-loop
@@ -75,11 +81,12 @@ loop-less c = search needs
 
 loop-again : tie.Need-loop-again Inv-loop μ-loop
 loop-again c =
-    let l = c .before .before .before .loop in
-    (l .inv .0, simp length-set (l .inv .1), simp length-set (l .inv .2), linked-step _ _ _ _ _ _ _ (l .inv .3) (room (c .before .before) .0) _ _ refl refl)
+    let t = c .before .before in
+    let k = t .before .loop .inv in
+    (k .0, simp length-set (k .1), simp length-set (k .2), linked-step _ _ _ _ _ _ _ (k .3) (room t .0) _ _ refl refl)
 
 same-length : tie.Need-same-length Inv-loop μ-loop
-same-length c = c .before .loop .inv .1 ∙ c .before .before .before .before .clear .kept .0
+same-length c = c .before .loop .inv .1 ∙ emptied (c .before) .clear .kept .0
 
 same-length-2 : tie.Need-same-length-2 Inv-loop μ-loop
 same-length-2 c = c .before .loop .inv .2
@@ -87,7 +94,7 @@ same-length-2 c = c .before .loop .inv .2
 returns : tie.Need-returns Inv-loop μ-loop
 returns c =
     let l = c .before .loop in
-    linked-end _ _ _ _ _ _ _ _ (c .before .before .before .before .clear .ensures .1) (l .inv .3) (omega (arith, l .inv .0, c .loop-test .left))
+    linked-end _ _ _ _ _ _ _ _ (emptied (c .before) .clear .ensures .1) (l .inv .3) (omega (arith, l .inv .0, c .loop-test .left))
 
 pub chain-spec : {M : Type 1} → statement M
 chain-spec =

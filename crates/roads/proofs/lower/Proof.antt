@@ -6,11 +6,16 @@ use Rattle.roads.proofs.Steps.{lowered, lowered-not}
 use Rattle.roads.proofs.lower.Statement.{statement}
 use Rattle.roads.proofs.lower.Tie as tie
 
+-- the ways back: from the test to the entry that is read, and from there to the start
+abbrev read : tie.After-struct-known2 → tie.After-furlongs
+read c = c .before .before
+
+abbrev begin : tie.After-furlongs → tie.Start
+begin c = c .before .before .before .before
+
 -- a length that is less than an entry fits an entry
-entry : (c : tie.After-struct-known3) → c .before .before .before .before .before .before .before .before .args .y .0 < 2 ^ 32
-entry c =
-    let s = c .before .before .before .before .before .before .before .before in
-    omega (arith, c .before .if1 .taken, c .before .before .before .before .furlongs .ensures, c .before .before .before .before .before .slice-known3 .given (s .args .u))
+fits : (c : tie.After-struct-known3) → begin (read (c .before .before)) .args .y .0 < 2 ^ 32
+fits c = omega (arith, c .before .if1 .taken, read (c .before .before) .furlongs .ensures)
 
 mul-furlongs : tie.Need-mul-furlongs
 mul-furlongs c = search needs
@@ -22,7 +27,7 @@ furlongs-requires : tie.Need-furlongs-requires
 furlongs-requires c κs = search needs
 
 cast-column : tie.Need-cast-column
-cast-column c = omega (arith, entry c)
+cast-column c = omega (arith, fits c)
 
 mul-column : tie.Need-mul-column
 mul-column c = search needs
@@ -31,10 +36,10 @@ slice-write-column : tie.Need-slice-write-column
 slice-write-column c = search needs
 
 mul-change : tie.Need-mul-change
-mul-change c = omega (arith, entry (c .before .before))
+mul-change c = omega (arith, fits (c .before .before))
 
 add-change : tie.Need-add-change
-add-change c = omega (arith, entry (c .before .before))
+add-change c = omega (arith, fits (c .before .before))
 
 change-requires : tie.Need-change-requires
 change-requires c κs = search needs
@@ -47,15 +52,16 @@ same-length-2 c = c .before .before .change .kept .0
 
 returns : tie.Need-returns
 returns c =
-    let s = c .before .before .before .before .before .before .before .before .before .before .before .before .before in
-    let k = c .before .before .change in
-    let less = c .before .before .before .before .before .before in
-    lowered _ _ _ _ _ (s .pre .0 .0) (s .pre .0 .2) (s .pre .1) _ (omega (arith, less .if1 .taken, less .before .before .before .furlongs .ensures)) (k .ensures .0) (k .ensures .1)
+    let k = c .before .before in
+    let t = k .before .before .before .before in
+    let p = begin (read (t .before)) .pre in
+    lowered _ _ _ _ _ (p .0 .0) (p .0 .2) (p .1) _ (omega (arith, t .if1 .taken, read (t .before) .furlongs .ensures)) (k .change .ensures .0) (k .change .ensures .1)
 
 returns-2 : tie.Need-returns-2
 returns-2 c =
-    let s = c .before .before .before .before .before .before .before in
-    lowered-not _ _ _ _ _ (s .pre .0 .0) (s .pre .0 .2) (s .pre .1) (omega (arith, c .if1 .left, c .before .before .before .furlongs .ensures))
+    let r = read (c .before) in
+    let p = begin r .pre in
+    lowered-not _ _ _ _ _ (p .0 .0) (p .0 .2) (p .1) (omega (arith, c .if1 .left, r .furlongs .ensures))
 
 pub lower-spec : {M : Type 1} → statement M
 lower-spec =

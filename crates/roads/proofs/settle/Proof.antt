@@ -1,6 +1,8 @@
 -- `roads::settle` meets its contract. The invariant is `Settling`. The measure is how many places are not settled.
+use Prim.Native.Nat.{_%_, _<_}
 use native.Mathlib.Omega.{arith}
 use borrow.Author.Needs.{needs}
+use Rattle.roads.specs.Search.{pack}
 use Rattle.roads.proofs.Settling.{Settling, settling-start, settling-end, settling-less, settling-step, next-in, next-after, left}
 use Rattle.roads.proofs.settle.Statement.{statement}
 use Rattle.roads.proofs.settle.Tie as tie
@@ -11,43 +13,57 @@ Inv-loop tails lengths last previous n column₀ w₀ column w = Settling tails 
 abbrev μ-loop : tie.MeasureT-loop
 μ-loop tails lengths last previous n column₀ w₀ column w = left n column w
 
+-- the ways back: from the loop to the start, from a turn to the loop, from the chain's start to `change`, from `spread` to the chain's start, from the turn's end
+abbrev begin : tie.After-slice-known2 Inv-loop μ-loop → tie.Start Inv-loop μ-loop
+begin c = c .before .before .before .before .before .before
+
+abbrev turn : tie.Else1 Inv-loop μ-loop → tie.At-loop Inv-loop μ-loop
+turn c = c .before .before .before
+
+abbrev chosen : tie.After-shared-slice-known5 Inv-loop μ-loop → tie.After-change Inv-loop μ-loop
+chosen c = c .before .before .before
+
+abbrev aimed : tie.After-spread Inv-loop μ-loop → tie.After-wide Inv-loop μ-loop
+aimed c = c .before .before .before
+
+abbrev gone : tie.After-slice-known5 Inv-loop μ-loop → tie.After-spread Inv-loop μ-loop
+gone c = c .before .before .before .before
+
+-- the place that is settled
+inside : (c : tie.Else1 Inv-loop μ-loop) → c .before .top .result % pack < begin (turn c .before) .args .n
+inside c = next-in (begin (turn c .before) .pre .0) (turn c .loop .inv) (c .before .top .ensures) (c .if1 .left)
+
 loop-holds : tie.Need-loop-holds Inv-loop μ-loop
-loop-holds c = settling-start _ _ _ _ _ _ _ (c .before .before .before .before .before .before .pre .1 .1)
+loop-holds c = settling-start _ _ _ _ _ _ _ (begin c .pre .1 .1)
 
 top-requires : tie.Need-top-requires Inv-loop μ-loop
 top-requires c κs = c .before .loop .inv .after .halfway .played
 
 same-length : tie.Need-same-length Inv-loop μ-loop
-same-length c = c .before .before .before .loop .inv .column-long
+same-length c = search needs
 
 same-length-2 : tie.Need-same-length-2 Inv-loop μ-loop
-same-length-2 c = c .before .before .before .loop .inv .w-long
+same-length-2 c = search needs
 
 returns : tie.Need-returns Inv-loop μ-loop
 returns c =
-    let l = c .before .before .before in
-    let s = l .before .before .before .before .before .before .before in
-    (l .loop .inv .after .past, settling-end _ _ _ _ _ _ _ _ _ _ (s .pre .0) (l .loop .inv) (c .before .top .ensures) (omega (arith, c .if1 .taken)))
+    let t = c .before in
+    let l = t .before .before in
+    (l .loop .inv .after .past, settling-end (begin (l .before) .pre .0) (l .loop .inv) (t .top .ensures) (omega (arith, c .if1 .taken)))
 
 add-change : tie.Need-add-change Inv-loop μ-loop
 add-change c = search needs
 
 change-requires : tie.Need-change-requires Inv-loop μ-loop
-change-requires c κs =
-    let h = c .before in
-    let l = h .before .before .before in
-    let s = l .before .before .before .before .before .before .before in
-    (next-in _ _ _ _ _ _ _ _ _ _ (s .pre .0) (l .loop .inv) (h .before .top .ensures) (h .if1 .left), l .loop .inv .after .halfway .played)
+change-requires c κs = (inside (c .before), turn (c .before) .loop .inv .after .halfway .played)
 
 mul-wide : tie.Need-mul-wide Inv-loop μ-loop
 mul-wide c = search needs
 
 shared-slice-read-wide : tie.Need-shared-slice-read-wide Inv-loop μ-loop
 shared-slice-read-wide c =
-    let h = c .before .before .before .before .before in
-    let l = h .before .before .before in
-    let s = l .before .before .before .before .before .before .before in
-    omega (arith, s .pre .1 .0 .places, next-in _ _ _ _ _ _ _ _ _ _ (s .pre .0) (l .loop .inv) (h .before .top .ensures) (h .if1 .left))
+    let h = chosen c .before .before in
+    omega (arith, inside h, begin (turn h .before) .pre .1 .0 .places)
 
 wide-requires : tie.Need-wide-requires Inv-loop μ-loop
 wide-requires c κs = search needs
@@ -55,34 +71,27 @@ wide-requires c κs = search needs
 spread-requires : tie.Need-spread-requires Inv-loop μ-loop
 spread-requires c κs =
     let f = c .before .before in
-    let k = f .before .before .before .before in
+    let k = chosen (f .before) in
     let h = k .before .before in
-    let l = h .before .before .before in
-    let s = l .before .before .before .before .before .before .before in
-    let inside = next-in _ _ _ _ _ _ _ _ _ _ (s .pre .0) (l .loop .inv) (h .before .top .ensures) (h .if1 .left) in
-    let after = next-after _ _ _ _ _ _ _ _ _ _ (s .pre .0) (l .loop .inv) (h .before .top .ensures) (h .if1 .left) _ (k .change .ensures .0) (k .change .ensures .1) in
-    (s .pre .0, (omega (arith, f .wide .ensures, s .pre .1 .0 .starts _ inside), after .halfway))
+    let p = begin (turn h .before) .pre in
+    let after = next-after (p .0) (turn h .loop .inv) (h .before .top .ensures) (h .if1 .left) (k .change .ensures .0) (k .change .ensures .1) in
+    (p .0, (omega (arith, f .wide .ensures, p .1 .0 .starts _ (inside h)), after .halfway))
 
 loop-less : tie.Need-loop-less Inv-loop μ-loop
 loop-less c =
-    let q = c .before .before .before .before in
-    let f = q .before .before .before in
-    let k = f .before .before .before .before in
+    let f = aimed (gone c) in
+    let k = chosen (f .before) in
     let h = k .before .before in
-    let l = h .before .before .before in
-    let s = l .before .before .before .before .before .before .before in
-    settling-less _ _ _ _ _ _ _ _ _ _ (s .pre .0) (l .loop .inv) (h .before .top .ensures) (h .if1 .left) _ (k .change .ensures .0) (k .change .ensures .1) _ (f .wide .ensures) _ _ (q .spread .ensures .0)
+    settling-less (begin (turn h .before) .pre .0) (turn h .loop .inv) (h .before .top .ensures) (h .if1 .left) (k .change .ensures .0) (k .change .ensures .1) (f .wide .ensures) (gone c .spread .ensures .0)
 
 loop-again : tie.Need-loop-again Inv-loop μ-loop
 loop-again c =
-    let q = c .before .before .before .before in
-    let f = q .before .before .before in
-    let k = f .before .before .before .before in
+    let q = gone c .spread in
+    let f = aimed (gone c) in
+    let k = chosen (f .before) in
     let h = k .before .before in
-    let l = h .before .before .before in
-    let s = l .before .before .before .before .before .before .before in
-    settling-step _ _ _ _ _ _ _ _ _ _ (s .pre .0) (l .loop .inv) (h .before .top .ensures) (h .if1 .left) _ (k .change .ensures .0) (k .change .ensures .1) _ (f .wide .ensures) _ _ (q .spread .ensures .0)
-    (q .spread .kept .1 .1 .1 .1 .1 .1 .0) (k .change .kept .0) (q .spread .kept .1 .1 .1 .1 .1 .1 .1 .0) (q .spread .ensures .1)
+    settling-step (begin (turn h .before) .pre .0) (turn h .loop .inv) (h .before .top .ensures) (h .if1 .left) (k .change .ensures .0) (k .change .ensures .1) (f .wide .ensures) (q .ensures .0)
+    (q .kept .1 .1 .1 .1 .1 .1 .0) (k .change .kept .0) (q .kept .1 .1 .1 .1 .1 .1 .1 .0) (q .ensures .1)
 
 pub settle-spec : {M : Type 1} → statement M
 settle-spec =

@@ -1,10 +1,10 @@
 -- `roads::start` meets its contract. The invariant is `Blank`.
-use mathlib.Core.Path.{_≡_, refl, _∙_}
+use mathlib.Core.Path.{refl, _∙_}
 use Prim.Native.Nat.{_-_}
 use native.Mathlib.Omega.{arith}
 use borrow.Author.Needs.{needs}
 use lib.ListN.{length-set}
-use Rattle.roads.proofs.Begun.{Blank, blank-step, begun, begun-past, begun-sound}
+use Rattle.roads.proofs.Begun.{Blank, blank-step, blank-end, begun, begun-past, begun-sound}
 use Rattle.roads.proofs.start.Statement.{statement}
 use Rattle.roads.proofs.start.Tie as tie
 
@@ -13,6 +13,10 @@ Inv-loop column₀ w₀ n v u₀ column w u = Blank n u column₀ w₀ column w
 
 abbrev μ-loop : tie.MeasureT-loop
 μ-loop column₀ w₀ n v u₀ column w u = n - u
+
+-- the way back from the end to the loop
+abbrev filled : tie.After-build Inv-loop μ-loop → tie.At-loop Inv-loop μ-loop
+filled c = c .before .before .before
 
 loop-holds : tie.Need-loop-holds Inv-loop μ-loop
 loop-holds c =
@@ -68,18 +72,17 @@ same-length : tie.Need-same-length Inv-loop μ-loop
 same-length c = search needs
 
 same-length-2 : tie.Need-same-length-2 Inv-loop μ-loop
-same-length-2 c = c .before .before .build .kept .0 ∙ simp length-set (c .before .before .before .before .before .loop .inv .w-long)
+same-length-2 c =
+    let b = c .before .before in
+    b .build .kept .0 ∙ simp length-set (filled b .loop .inv .w-long)
 
 returns : tie.Need-returns Inv-loop μ-loop
 returns c =
-    let l = c .before .before .before .before .before .loop in
-    let s = c .before .before .before .before .before .before .before .before in
-    let e : l .u ≡ s .args .n = omega arith in
-    let k = c .before .before .build in
-    let B : Blank (s .args .n) (s .args .n) (s .args .column .now) (s .args .words .now) (l .column) (l .words) = rw e at (l .inv) in (
-      begun _ _ _ _ _ _ _ B (s .pre .0) (k .ensures .0) (k .ensures .1),
-      (begun-past _ _ _ _ _ _ _ B (s .pre .0) (k .ensures .0) (k .ensures .1), begun-sound _ _ _ _ _ _ _ B (s .pre .0) (k .ensures .0) (k .ensures .1)),
-    )
+    let k = c .before .before .build .ensures in
+    let l = filled (c .before .before) in
+    let v-in = l .before .before .before .pre .0 in
+    let B = blank-end (l .loop .inv) (omega arith) in
+    (begun B v-in (k .0) (k .1), (begun-past B v-in (k .0) (k .1), begun-sound B v-in (k .0) (k .1)))
 
 pub start-spec : {M : Type 1} → statement M
 start-spec =

@@ -23,8 +23,7 @@ returns : tie.Need-returns
 returns c =
     let e = c .before .before .before in
     let a = e .before .before .before .before .before .before in
-    let v = a .before .before .before .before .before .before .before .before .args .v in
-    (λ k l. e .settle .ensures .0 k l ∙ a .start .ensures .1 .0 k l, λ m K T G. e .settle .ensures .1 m v K T G (a .start .ensures .1 .1 m (K .head-in)))
+    (λ k l. e .settle .ensures .0 k l ∙ a .start .ensures .1 .0 k l, λ m K T G. e .settle .ensures .1 m _ K T G (a .start .ensures .1 .1 m (K .head-in)))
 
 pub towards-spec : {M : Type 1} → statement M
 towards-spec =
