@@ -1,5 +1,5 @@
 -- The decimal digits of a number, taken from its end.
-use Prim.Native.Nat.{ℕ, zero, suc, _+_, _^_, _/_, _%_, _≤_, _<_}
+use Prim.Native.Nat.{ℕ, zero, suc, _+_, _-_, _^_, _/_, _%_, _≤_, _<_}
 use mathlib.Core.Path.{_≡_, refl, sym, ap, _∙_}
 use mathlib.Core.List.{[], _∷_, _++_}
 use native.Mathlib.Nat.{pow-succ'}
@@ -8,6 +8,7 @@ use native.Mathlib.Omega.{arith}
 use lib.ListN.{length, length-append}
 use borrow.Author.Tests.{lt-ltb, le-ltb}
 use Rattle.paper.specs.Printed.{digits, decimal}
+use Rattle.text.specs.Room.{numberRoom}
 
 -- a number of one digit, or of more
 by : {A : Type 0} (n : ℕ) → (n < 10 → A) → (10 ≤ n → A) → A
@@ -75,7 +76,7 @@ digits-short (suc k) (suc f) n h =
     less : n / 10 < 10 ^ suc k
     less = omega (arith, pow-succ' 10 (suc k))
 
--- a 64-bit number has at most 20 digits
-pub decimal-short : (n : ℕ) → n < 2 ^ 64 → length (decimal n) ≤ 20
+-- a 64-bit number and the byte after it fit
+pub decimal-short : (n : ℕ) → n < 2 ^ 64 → length (decimal n) < numberRoom
 unfolding decimal
-decimal-short n h = digits-short 19 (suc n) n (omega arith)
+decimal-short n h = omega (arith, digits-short (numberRoom - 2) (suc n) n (omega arith))

@@ -51,5 +51,5 @@ list-short (suc k) ws h =
       list-short k (drop lineWords ws) (words-drop lineWords ws h),
     )
 
-pub refusal-short : (n : ℕ) → n < 2 ^ 64 → length (refusalText n) ≤ 29
+pub refusal-short : (n : ℕ) → n < 2 ^ 64 → length (refusalText n) ≤ numberRoom * 2
 refusal-short n h = omega (arith, refusal-length n, decimal-short n h)

@@ -1,4 +1,5 @@
 // What the program prints, written into a lent slice of bytes: each function writes one text and returns the position after it.
+use paper::sizes::LINE_WORDS;
 ghost use mathlib.Core.Path.{_≡_};
 ghost use mathlib.Core.List.{List, _∷_};
 ghost use Prim.Native.Nat.{ℕ, _+_, _*_, _≤_, _<_};
@@ -7,9 +8,6 @@ ghost use Rattle.paper.specs.Sizes.{lineWords};
 ghost use Rattle.paper.specs.Printed.{decimal, after, lineText, refusalText, listText, replyText};
 ghost use Rattle.text.specs.Put.{Put, Written, replyOf};
 ghost use Rattle.text.specs.Room.{replyRoom};
-
-// Words of the answer slice for each listed office.
-const LINE_WORDS: usize = 4;
 
 fn digit(n: u64) -> u8
     requires { ⌜ n < 10 ⌝ }

@@ -1,4 +1,4 @@
--- `text::put_after` meets its contract. The invariant: the numbers before i are written. The measure is how many are left. Assumes nothing.
+-- `text::put_after` meets its contract. The invariant: the numbers before i are written. The measure is how many are left.
 use mathlib.Core.Path.{_≡_, refl}
 use Prim.Native.Nat.{_+_, _-_, _≤_}
 use native.Mathlib.Omega.{arith}
@@ -18,6 +18,10 @@ Inv-loop out₀ at words from count to next₀ i₀ out next i =
 abbrev μ-loop : tie.MeasureT-loop
 μ-loop out₀ at words from count to next₀ i₀ out next i = to - i
 
+-- the way back from the loop to the start
+abbrev begin : tie.At-loop Inv-loop μ-loop → tie.Start Inv-loop μ-loop
+begin c = c .before .before .before
+
 add-to : tie.Need-add-to Inv-loop μ-loop
 add-to c = search needs
 
@@ -35,7 +39,7 @@ shared-slice-read-put-next c = search needs
 put-next-requires : tie.Need-put-next-requires Inv-loop μ-loop
 put-next-requires c κs =
     let t = c .before .before in
-    let s = t .before .before .before .before in
+    let s = begin (t .before) in
     after-fits (s .args .words .now) (t .before .loop .inv .0) (s .pre .1) (t .loop-test .taken) (omega arith)
 
 add-i : tie.Need-add-i Inv-loop μ-loop
@@ -48,23 +52,21 @@ loop-again : tie.Need-loop-again Inv-loop μ-loop
 loop-again c =
     let p = c .before .before in
     let t = p .before .before .before in
-    let s = t .before .before .before .before in
+    let s = begin (t .before) in
     let g = after-more (s .args .words .now) (t .before .loop .inv .0) (t .loop-test .taken) (omega arith) (p .put-next .ensures) in
     (g, omega arith, omega arith, going-long g)
 
 slice-write-out : tie.Need-slice-write-out Inv-loop μ-loop
 slice-write-out c =
-    let s = c .before .before .before .before in
+    let s = begin (c .before) in
     after-room (s .args .words .now) (c .before .loop .inv .0) (s .pre .1) (c .loop-test .left)
 
 add-result : tie.Need-add-result Inv-loop μ-loop
-add-result c =
-    let s = c .before .before .before .before in
-    omega (arith, after-room (s .args .words .now) (c .before .loop .inv .0) (s .pre .1) (c .loop-test .left))
+add-result c = omega (arith, slice-write-out c)
 
 returns : tie.Need-returns Inv-loop μ-loop
 returns c =
-    let s = c .before .before .before .before in
+    let s = begin (c .before) in
     after-done (s .args .words .now) (c .before .loop .inv .0) (s .pre .1) (c .loop-test .left)
 
 same-length : tie.Need-same-length Inv-loop μ-loop

@@ -1,4 +1,4 @@
--- `text::put_bytes` meets its contract. The invariant: the bytes before i are written. The measure is how many are left. Assumes nothing.
+-- `text::put_bytes` meets its contract. The invariant: the bytes before i are written. The measure is how many are left.
 use mathlib.Core.Path.{_≡_, refl}
 use Prim.Native.Nat.{_+_, _-_, _≤_}
 use native.Mathlib.Nat.{add-zero}

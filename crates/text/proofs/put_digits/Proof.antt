@@ -1,4 +1,4 @@
--- `text::put_digits` meets its contract. The invariant: the digits from p on are written, those of `rest` are left. The measure is p. Assumes nothing.
+-- `text::put_digits` meets its contract. The invariant: the digits from p on are written, those of `rest` are left. The measure is p.
 use mathlib.Core.Path.{_≡_, refl}
 use native.Mathlib.Omega.{arith}
 use borrow.Author.Needs.{needs}

@@ -1,4 +1,4 @@
--- `text::put_list` meets its contract. The invariant: the lines before i are written. The measure is how many are left. Assumes nothing.
+-- `text::put_list` meets its contract. The invariant: the lines before i are written. The measure is how many are left.
 use mathlib.Core.Path.{_≡_, refl}
 use Prim.Native.Nat.{_-_, _≤_}
 use native.Mathlib.Omega.{arith}
@@ -17,6 +17,10 @@ Inv-loop out₀ at answer k next₀ i₀ out next i =
 abbrev μ-loop : tie.MeasureT-loop
 μ-loop out₀ at answer k next₀ i₀ out next i = k - i
 
+-- the way back from the loop to the start
+abbrev begin : tie.At-loop Inv-loop μ-loop → tie.Start Inv-loop μ-loop
+begin c = c .before .before .before
+
 loop-holds : tie.Need-loop-holds Inv-loop μ-loop
 loop-holds c =
     let s = c .before .before in
@@ -28,7 +32,7 @@ mul-put-numbers c = search needs
 put-numbers-requires : tie.Need-put-numbers-requires Inv-loop μ-loop
 put-numbers-requires c κs =
     let t = c .before in
-    let s = t .before .before .before .before in
+    let s = begin (t .before) in
     ((omega arith, omega arith), list-fits (s .args .answer .now) (t .before .loop .inv .0) (s .pre .1) (t .loop-test .taken))
 
 add-i : tie.Need-add-i Inv-loop μ-loop
@@ -41,7 +45,7 @@ loop-again : tie.Need-loop-again Inv-loop μ-loop
 loop-again c =
     let p = c .before .before in
     let t = p .before .before in
-    let s = t .before .before .before .before in
+    let s = begin (t .before) in
     let g = list-more (s .args .answer .now) (t .before .loop .inv .0) (t .loop-test .taken) (p .put-numbers .ensures) in
     (g, omega arith, going-long g)
 
@@ -49,8 +53,7 @@ same-length : tie.Need-same-length Inv-loop μ-loop
 same-length c = search needs
 
 returns : tie.Need-returns Inv-loop μ-loop
-returns c =
-    list-done (c .before .before .before .before .args .answer .now) (c .before .loop .inv .0) (c .loop-test .left)
+returns c = list-done (begin (c .before) .args .answer .now) (c .before .loop .inv .0) (c .loop-test .left)
 
 pub put-list-spec : {M : Type 1} → statement M
 put-list-spec =

@@ -1,4 +1,4 @@
--- `text::put_next` meets its contract. Assumes nothing.
+-- `text::put_next` meets its contract.
 use native.Mathlib.Omega.{arith}
 use borrow.Author.Needs.{needs}
 use lib.ListN.{length-set}

@@ -1,10 +1,17 @@
--- `text::put_numbers` meets its contract. Assumes nothing.
+-- `text::put_numbers` meets its contract.
 use native.Mathlib.Omega.{arith}
 use borrow.Author.Needs.{needs}
 use Rattle.text.proofs.Put.{put-length, written-then}
 use Rattle.text.proofs.Lines.{line-parts, line-length}
 use Rattle.text.proofs.put_numbers.Statement.{statement}
 use Rattle.text.proofs.put_numbers.Tie as tie
+
+-- the ways back: from the first number to the start, and from the others to the first
+abbrev begin : tie.After-shared-slice-known2 → tie.Start
+begin c = c .before .before .before .before
+
+abbrev first : tie.After-put-after-arg → tie.After-put-decimal
+first c = c .before .before .before
 
 mul-put-decimal : tie.Need-mul-put-decimal
 mul-put-decimal c = search needs
@@ -14,7 +21,7 @@ shared-slice-read-put-decimal c = search needs
 
 put-decimal-requires : tie.Need-put-decimal-requires
 put-decimal-requires c κs =
-    let s = c .before .before .before .before in
+    let s = begin c in
     omega (arith, line-length (s .args .words .now) (s .args .from) (s .args .count) (s .pre .0 .0) (s .pre .0 .1))
 
 add-put-after : tie.Need-add-put-after
@@ -25,15 +32,15 @@ sub-put-after c = search needs
 
 put-after-requires : tie.Need-put-after-requires
 put-after-requires c κs =
-    let d = c .before .before .before in
-    let s = d .before .before .before .before .before in
+    let d = first c in
+    let s = begin (d .before) in
     (omega arith, omega (arith, line-length (s .args .words .now) (s .args .from) (s .args .count) (s .pre .0 .0) (s .pre .0 .1), d .put-decimal .ensures .past, put-length (d .put-decimal .ensures .put)))
 
 returns : tie.Need-returns
 returns c =
     let a = c .before .before in
-    let d = a .before .before .before .before in
-    let s = d .before .before .before .before .before in
+    let d = first (a .before) in
+    let s = begin (d .before) in
     rw (line-parts (s .args .words .now) (s .args .from) (s .args .count) (s .pre .0 .0) (s .pre .0 .1)) (written-then (d .put-decimal .ensures) (a .put-after .ensures))
 
 same-length : tie.Need-same-length

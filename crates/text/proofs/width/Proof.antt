@@ -1,4 +1,4 @@
--- `text::width` meets its contract. The invariant: what is counted and the digits of `rest` are one more than the digits of n. The measure is `rest`. Assumes nothing.
+-- `text::width` meets its contract. The invariant: what is counted and the digits of `rest` are one more than the digits of n. The measure is `rest`.
 use Prim.Native.Nat.{_≤_}
 use native.Mathlib.Omega.{arith}
 use borrow.Author.Needs.{needs}
