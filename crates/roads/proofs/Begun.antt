@@ -28,8 +28,8 @@ pub record Blank (n u : ℕ) (column₀ w₀ column w : List ℕ) : Type 0 where
   pub word : (k : ℕ) → k < u → getD w (n + k) 0 ≡ packed far k
   pub past : Untouched n column₀ column
 
-pub blank-step : (n u : ℕ) (column₀ w₀ column w : List ℕ) → Blank n u column₀ w₀ column w → u < n → Blank n (u + 1) column₀ w₀ (set column u far) (set w (n + u) (packed far u))
-blank-step n u column₀ w₀ column w B l = record {
+pub blank-step : {n u : ℕ} {column₀ w₀ column w : List ℕ} → Blank n u column₀ w₀ column w → u < n → Blank n (u + 1) column₀ w₀ (set column u far) (set w (n + u) (packed far u))
+blank-step {n} {u} {column = column} {w = w} B l = record {
   upto = omega arith;
   few = B .few;
   column-long = simp length-set (B .column-long);

@@ -18,8 +18,8 @@ pub record Linked (heads : List ℕ) (n i : ℕ) (last₀ previous₀ last previ
   pub last-past : Untouched n last₀ last
   pub previous-past : Untouched (length heads) previous₀ previous
 
-pub linked-start : (heads : List ℕ) (n : ℕ) (last previous : List ℕ) → Chainable heads n last previous → ((p : ℕ) → p < n → getD last p 0 ≡ 0) → Linked heads n 0 last previous last previous
-linked-start heads n last previous fit zeros = record {
+pub linked-start : {heads : List ℕ} {n : ℕ} {last previous : List ℕ} → Chainable heads n last previous → ((p : ℕ) → p < n → getD last p 0 ≡ 0) → Linked heads n 0 last previous last previous
+linked-start fit zeros = record {
   fit = fit;
   upto = omega arith;
   starts = λ w l. record { within = omega (arith, zeros w l); into = λ i e. absurd (omega (arith, zeros w l)); none = λ i a b. absurd (omega arith) };
@@ -42,12 +42,12 @@ latest-new head w i e = record {
   none = λ k a l q. omega arith;
 }
 
-module _ (heads : List ℕ) (n i : ℕ) (last₀ previous₀ last previous : List ℕ) (K : Linked heads n i last₀ previous₀ last previous) (more : i < length heads) where
+module _ {heads : List ℕ} {n i : ℕ} {last₀ previous₀ last previous : List ℕ} (K : Linked heads n i last₀ previous₀ last previous) (more : i < length heads) where
   abbrev head : ℕ → ℕ
   head k = getD heads k 0
 
-  pub linked-step : (w x : ℕ) → w ≡ getD heads i 0 → x ≡ getD last w 0 → Linked heads n (i + 1) last₀ previous₀ (set last w (i + 1)) (set previous i x)
-  linked-step w x at is = record {
+  pub linked-step : {w x : ℕ} → w ≡ getD heads i 0 → x ≡ getD last w 0 → Linked heads n (i + 1) last₀ previous₀ (set last w (i + 1)) (set previous i x)
+  linked-step {w} {x} at is = record {
     fit = record {
       few = K .fit .few;
       places = simp length-set (K .fit .places);
@@ -77,8 +77,8 @@ module _ (heads : List ℕ) (n i : ℕ) (last₀ previous₀ last previous : Lis
       ]
 
 -- lent is the slice of `last` before it was cleared
-pub linked-end : (heads : List ℕ) (n i : ℕ) (lent last₀ previous₀ last previous : List ℕ) → Untouched n lent last₀ → Linked heads n i last₀ previous₀ last previous → length heads ≤ i → Chained heads n lent previous₀ last previous
-linked-end heads n i lent last₀ previous₀ last previous cleared K h =
+pub linked-end : {heads : List ℕ} {n i : ℕ} {lent last₀ previous₀ last previous : List ℕ} → Untouched n lent last₀ → Linked heads n i last₀ previous₀ last previous → length heads ≤ i → Chained heads n lent previous₀ last previous
+linked-end {heads} {i = i} cleared K h =
     let e : i ≡ length heads = omega (arith, K .upto) in
     record {
       starts = rw e at (K .starts);

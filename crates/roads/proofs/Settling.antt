@@ -20,7 +20,7 @@ use Rattle.roads.specs.Search.{pack, packed, wordOf, Done, Open, Halfway
 use Rattle.roads.proofs.Steps.{State, after-none, after-then}
 
 -- ---- a place is settled
-module _ (n d : ℕ) (column w : List ℕ) (r : ℕ) (few : n ≤ mostPlaces) (H : Halfway n d column w) (L : Least w 0 n r) where
+module _ {n d : ℕ} {column w : List ℕ} {r : ℕ} (few : n ≤ mostPlaces) (H : Halfway n d column w) (L : Least w 0 n r) where
   module _ (some : r < far * pack) where
     least-open : Open d (getD column (L .at) 0) (wordOf w n (L .at)) (L .at)
     least-open = ⊎-elim (λ D. absurd (omega (arith, D .word, L .is))) (λ O. O) (H .state (L .at) (L .inside))
@@ -40,7 +40,7 @@ module _ (n d : ℕ) (column w : List ℕ) (r : ℕ) (few : n ≤ mostPlaces) (H
     pub at-open : wordOf w n (r % pack) ≡ r
     at-open = rw at-is (sym (L .is))
 
-    module _ (p : ℕ) (p-is : p ≡ r % pack) (w′ : List ℕ) (S : Same 0 n (set w (0 + (n + p)) (packed far p)) w′) (P : Played w′ 0 n) where
+    module _ {p : ℕ} (p-is : p ≡ r % pack) {w′ : List ℕ} (S : Same 0 n (set w (0 + (n + p)) (packed far p)) w′) (P : Played w′ 0 n) where
       new-word : wordOf w′ n p ≡ packed far p
       new-word = word-new w w′ 0 n p (packed far p) S (H .played .room) (omega (arith, at-in))
 
@@ -75,8 +75,8 @@ module _ (n d : ℕ) (column w : List ℕ) (r : ℕ) (few : n ≤ mostPlaces) (H
       }
 
       -- the chain of p begins at b
-      pub taken-visit : (m : Map) (v q b : ℕ) → ((k : ℕ) → k < m .stages → m .head k < n) → Latest (m .head) p (m .stages) b → Sound m n v d q 0 column w → Visit m n v (r / pack) p b column w′
-      taken-visit m v q b head-in B S₀ = record {
+      pub taken-visit : {m : Map} {v q b : ℕ} → ((k : ℕ) → k < m .stages → m .head k < n) → Latest (m .head) p (m .stages) b → Sound m n v d q 0 column w → Visit m n v (r / pack) p b column w′
+      taken-visit {m} {v} {q} {b} head-in B S₀ = record {
         sound = record { real = S₀ .real; self = S₀ .self; closed = closed };
         into = B .into;
         inside = omega (arith, at-in);
@@ -90,7 +90,7 @@ module _ (n d : ℕ) (column w : List ℕ) (r : ℕ) (few : n ≤ mostPlaces) (H
           ]
 
   -- ---- no place is left
-  module _ (none : far * pack ≤ r) (m : Map) (v q : ℕ) (S : Sound m n v d q 0 column w) (tail-in : (k : ℕ) → k < m .stages → m .tail k < n) (head-in : (k : ℕ) → k < m .stages → m .head k < n)
+  module _ (none : far * pack ≤ r) {m : Map} {v q : ℕ} (S : Sound m n v d q 0 column w) (tail-in : (k : ℕ) → k < m .stages → m .tail k < n) (head-in : (k : ℕ) → k < m .stages → m .head k < n)
       (high : (k : ℕ) → k < m .stages → m .furlongs k ≤ mostFurlongs)
     where
       abbrev f : ℕ → ℕ
@@ -124,7 +124,7 @@ open-at column w n u = min 1 (packed (getD column u 0) u + 1 - wordOf w n u)
 abbrev pub left : ℕ → List ℕ → List ℕ → ℕ
 left n column w = sum n (open-at column w n)
 
-module _ (n d : ℕ) (column w : List ℕ) (d′ : ℕ) (column′ w′ : List ℕ) (H : Halfway n d column w) (A : After n d column w d′ column′ w′) where
+module _ {n d d′ : ℕ} {column w column′ w′ : List ℕ} (H : Halfway n d column w) (A : After n d column w d′ column′ w′) where
   fewer-at : (u : ℕ) → u < n → open-at column′ w′ n u ≤ open-at column w n u
   fewer-at u l = ⊎-elim
       (λ D. let D′ = A .stays u l D in omega (arith, D′ .word, D′ .early, A .halfway .near))
@@ -142,31 +142,31 @@ pub record Settling (tails lengths last previous : List ℕ) (n : ℕ) (column�
   pub after : After n 0 column₀ w₀ d column w
   pub sound : (m : Map) (v : ℕ) → Lists m tails lengths n → Starts (m .head) n (m .stages) last → GoesOn (m .head) (m .stages) previous → Sound m n v 0 0 0 column₀ w₀ → Sound m n v d 0 0 column w
 
-pub settling-start : (tails lengths last previous : List ℕ) (n : ℕ) (column w : List ℕ) → Halfway n 0 column w → Settling tails lengths last previous n column w column w
-settling-start tails lengths last previous n column w H = record { d = 0; column-long = refl; w-long = refl; after = after-none n 0 column w H; sound = λ m v K T G S. S }
+pub settling-start : {tails lengths last previous : List ℕ} {n : ℕ} {column w : List ℕ} → Halfway n 0 column w → Settling tails lengths last previous n column w column w
+settling-start H = record { d = 0; column-long = refl; w-long = refl; after = after-none H; sound = λ m v K T G S. S }
 
 module _ {tails lengths last previous : List ℕ} {n : ℕ} {column₀ w₀ column w : List ℕ} {r : ℕ} (R : Ready tails lengths previous n) (K : Settling tails lengths last previous n column₀ w₀ column w) (L : Least w 0 n r) where
   pub settling-end : far * pack ≤ r → (m : Map) (v : ℕ) → Lists m tails lengths n → Starts (m .head) n (m .stages) last → GoesOn (m .head) (m .stages) previous → Sound m n v 0 0 0 column₀ w₀ → Towards m n v (λ u. getD column u 0)
   settling-end none m v M T G S =
-      all-near n (K .d) column w r (R .few) (K .after .halfway) L none m v 0 (K .sound m v M T G S)
+      all-near (R .few) (K .after .halfway) L none (K .sound m v M T G S)
       (λ k l. omega (arith, M .tail k l, R .tail-in k (omega (arith, M .stages))))
       (M .head-in)
       (λ k l. omega (arith, M .furlongs k l, R .furlongs-high k (omega (arith, M .stages))))
 
   module _ (some : r < far * pack) where
     pub next-in : r % pack < n
-    next-in = at-in n (K .d) column w r (R .few) (K .after .halfway) L some
+    next-in = at-in (R .few) (K .after .halfway) L some
 
     module _ {w₁ : List ℕ} (S₁ : Same 0 n (set w (0 + (n + r % pack)) (packed far (r % pack))) w₁) (P₁ : Played w₁ 0 n) where
       pub next-after : After n (K .d) column w (r / pack) column w₁
-      next-after = taken n (K .d) column w r (R .few) (K .after .halfway) L some (r % pack) refl w₁ S₁ P₁
+      next-after = taken (R .few) (K .after .halfway) L some refl S₁ P₁
 
       module _ {from : ℕ} (from-is : from ≡ getD last (r % pack) 0) {column′ w′ : List ℕ} (A : After n (r / pack) column w₁ (r / pack) column′ w′) where
         pub settling-less : left n column′ w′ < left n column w
         settling-less =
-            fewer n (K .d) column w (r / pack) column′ w′ (K .after .halfway) (after-then n (K .d) column w (r / pack) column w₁ (r / pack) column′ w′ next-after A) (r % pack) next-in
-            (omega (arith, at-open n (K .d) column w r (R .few) (K .after .halfway) L some, at-value n (K .d) column w r (R .few) (K .after .halfway) L some))
-            (A .stays (r % pack) next-in (taken-done n (K .d) column w r (R .few) (K .after .halfway) L some (r % pack) refl w₁ S₁ P₁))
+            fewer (K .after .halfway) (after-then next-after A) (r % pack) next-in
+            (omega (arith, at-open (R .few) (K .after .halfway) L some, at-value (R .few) (K .after .halfway) L some))
+            (A .stays (r % pack) next-in (taken-done (R .few) (K .after .halfway) L some refl S₁ P₁))
 
         pub settling-step : length column′ ≡ length column → length w₁ ≡ length w → length w′ ≡ length w₁
             → ((m : Map) (v p : ℕ) → Lists m tails lengths n → GoesOn (m .head) (m .stages) previous → Visit m n v (r / pack) p from column w₁ → Visit m n v (r / pack) p 0 column′ w′)
@@ -175,12 +175,12 @@ module _ {tails lengths last previous : List ℕ} {n : ℕ} {column₀ w₀ colu
           d = r / pack;
           column-long = cl ∙ K .column-long;
           w-long = wl′ ∙ wl ∙ K .w-long;
-          after = after-then n 0 column₀ w₀ (K .d) column w (r / pack) column′ w′ (K .after) (after-then n (K .d) column w (r / pack) column w₁ (r / pack) column′ w′ next-after A);
+          after = after-then (K .after) (after-then next-after A);
           sound = sound;
         }
           where
             sound : (m : Map) (v : ℕ) → Lists m tails lengths n → Starts (m .head) n (m .stages) last → GoesOn (m .head) (m .stages) previous → Sound m n v 0 0 0 column₀ w₀ → Sound m n v (r / pack) 0 0 column′ w′
             sound m v M T G S =
                 let B : Latest (m .head) (r % pack) (m .stages) from = rw from-is (T (r % pack) next-in) in
-                let Q = F m v (r % pack) M G (taken-visit n (K .d) column w r (R .few) (K .after .halfway) L some (r % pack) refl w₁ S₁ P₁ m v 0 from (M .head-in) B (K .sound m v M T G S)) in
+                let Q = F m v (r % pack) M G (taken-visit (R .few) (K .after .halfway) L some refl S₁ P₁ (M .head-in) B (K .sound m v M T G S)) in
                 record { real = Q .sound .real; self = Q .sound .self; closed = λ i l D f. Q .sound .closed i l D (λ e. omega arith) }

@@ -19,7 +19,7 @@ abbrev pub State : ℕ → ℕ → ℕ → ℕ → Type 0
 State d t x u = Done d t x u ⊎ Open d t x u
 
 -- ---- `lower`
-module _ (n u y : ℕ) (column w : List ℕ) (u-in : u < n) (long : n ≤ length column) (P : Played w 0 n) where
+module _ {n u y : ℕ} {column w : List ℕ} (u-in : u < n) (long : n ≤ length column) (P : Played w 0 n) where
   pub lowered-not : getD column u 0 ≤ y → Lowered n u y column w column w
   lowered-not h = record {
     played = P;
@@ -30,8 +30,8 @@ module _ (n u y : ℕ) (column w : List ℕ) (u-in : u < n) (long : n ≤ length
     leaves = λ k ne. refl;
   }
 
-  pub lowered : (w′ : List ℕ) → y < getD column u 0 → Same 0 n (set w (0 + (n + u)) (packed y u)) w′ → Played w′ 0 n → Lowered n u y column w (set column u y) w′
-  lowered w′ h S P′ = record {
+  pub lowered : {w′ : List ℕ} → y < getD column u 0 → Same 0 n (set w (0 + (n + u)) (packed y u)) w′ → Played w′ 0 n → Lowered n u y column w (set column u y) w′
+  lowered {w′} h S P′ = record {
     played = P′;
     value = omega (arith, getD-set-same column u y 0 (omega arith));
     word = λ l. word-new w w′ 0 n u (packed y u) S (P .room) u-in;
@@ -41,7 +41,7 @@ module _ (n u y : ℕ) (column w : List ℕ) (u-in : u < n) (long : n ≤ length
   }
 
 -- ---- a stage
-module _ (n u y d : ℕ) (column w column′ w′ : List ℕ) (u-in : u < n) (long : length column′ ≡ length column) (H : Halfway n d column w) (L : Lowered n u y column w column′ w′) (onward : d ≤ y) where
+module _ {n u y d : ℕ} {column w column′ w′ : List ℕ} (u-in : u < n) (long : length column′ ≡ length column) (H : Halfway n d column w) (L : Lowered n u y column w column′ w′) (onward : d ≤ y) where
   abbrev t : ℕ → ℕ
   t k = getD column k 0
 
@@ -106,7 +106,7 @@ module _ (n u y d : ℕ) (column w column′ w′ : List ℕ) (u-in : u < n) (lo
         | no ne ↦ omega (arith, L .others k ne, L .leaves k ne, D .word, D .early, O .word, H .near)
       ]
 
-  module _ (m : Map) (v p i : ℕ) (prev : ℕ) (Q : Visit m n v d p (i + 1) column w) (in-stages : i < m .stages) (tail-is : m .tail i ≡ u) (y-is : y ≡ m .furlongs i + d)
+  module _ {m : Map} {v p i prev : ℕ} (Q : Visit m n v d p (i + 1) column w) (in-stages : i < m .stages) (tail-is : m .tail i ≡ u) (y-is : y ≡ m .furlongs i + d)
       (head-in : (k : ℕ) → k < m .stages → m .head k < n) (B : Latest (m .head) (m .head i) i prev)
     where
       to-p : m .head i ≡ p
@@ -155,18 +155,14 @@ module _ (n u y d : ℕ) (column w column′ w′ : List ℕ) (u-in : u < n) (lo
       }
 
 -- ---- one after the other
-pub after-none : (n d : ℕ) (column w : List ℕ) → Halfway n d column w → After n d column w d column w
-after-none n d column w H = record { halfway = H; stays = λ u l D. D; past = λ k l. refl }
+pub after-none : {n d : ℕ} {column w : List ℕ} → Halfway n d column w → After n d column w d column w
+after-none H = record { halfway = H; stays = λ u l D. D; past = λ k l. refl }
 
-pub after-then : (n d : ℕ) (column w : List ℕ) (d′ : ℕ) (column′ w′ : List ℕ) (d″ : ℕ) (column″ w″ : List ℕ) → After n d column w d′ column′ w′ → After n d′ column′ w′ d″ column″ w″ → After n d column w d″ column″ w″
-after-then n d column w d′ column′ w′ d″ column″ w″ A B = record {
-  halfway = B .halfway;
-  stays = λ u l D. B .stays u l (A .stays u l D);
-  past = λ k l. B .past k l ∙ A .past k l;
-}
+pub after-then : {n d d′ d″ : ℕ} {column w column′ w′ column″ w″ : List ℕ} → After n d column w d′ column′ w′ → After n d′ column′ w′ d″ column″ w″ → After n d column w d″ column″ w″
+after-then A B = record { halfway = B .halfway; stays = λ u l D. B .stays u l (A .stays u l D); past = λ k l. B .past k l ∙ A .past k l }
 
 -- ---- `spread`: a turn. j is one more than the stage's number
-module _ (tails lengths previous : List ℕ) (n j d : ℕ) (column w column′ w′ : List ℕ) (u y next : ℕ) (R : Ready tails lengths previous n) (some : 0 < j) (upto : j ≤ length tails) (H : Halfway n d column w)
+module _ {tails lengths previous : List ℕ} {n j d : ℕ} {column w column′ w′ : List ℕ} {u y next : ℕ} (R : Ready tails lengths previous n) (some : 0 < j) (upto : j ≤ length tails) (H : Halfway n d column w)
     (u-is : u ≡ getD tails (j - 1) 0) (y-is : y ≡ d + getD lengths (j - 1) 0) (next-is : next ≡ getD previous (j - 1) 0)
     (long : length column′ ≡ length column) (L : Lowered n u y column w column′ w′)
   where
@@ -174,11 +170,10 @@ module _ (tails lengths previous : List ℕ) (n j d : ℕ) (column w column′ w
     turn-in = omega (arith, R .tail-in (j - 1) (omega arith))
 
     pub turn-after : After n d column w d column′ w′
-    turn-after = step-after n u y d column w column′ w′ turn-in long H L (omega arith)
+    turn-after = step-after turn-in long H L (omega arith)
 
     pub turn-visit : (m : Map) (v p : ℕ) → Lists m tails lengths n → GoesOn (m .head) (m .stages) previous → Visit m n v d p j column w → Visit m n v d p next column′ w′
     turn-visit m v p K G Q =
         let i-in : j - 1 < m .stages = omega (arith, K .stages) in
         let j-is : j ≡ j - 1 + 1 = omega arith in
-        rw next-is (step-visit n u y d column w column′ w′ turn-in long H L (omega arith) m v p (j - 1) (getD previous (j - 1) 0)
-        (subst (λ (k : ℕ). Visit m n v d p k column w) j-is Q) i-in (K .tail (j - 1) i-in ∙ sym u-is) (omega (arith, K .furlongs (j - 1) i-in)) (K .head-in) (G (j - 1) i-in))
+        rw next-is (step-visit turn-in long H L (omega arith) (subst (λ (k : ℕ). Visit m n v d p k column w) j-is Q) i-in (K .tail (j - 1) i-in ∙ sym u-is) (omega (arith, K .furlongs (j - 1) i-in)) (K .head-in) (G (j - 1) i-in))

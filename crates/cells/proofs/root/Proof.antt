@@ -13,13 +13,13 @@ abbrev μ-loop : tie.MeasureT-loop
 μ-loop n root₀ span₀ root span = span
 
 loop-holds : tie.Need-loop-holds Inv-loop μ-loop
-loop-holds c = within-all _ (c .pre)
+loop-holds c = within-all (c .pre)
 
 add-middle : tie.Need-add-middle Inv-loop μ-loop
 add-middle c = search needs
 
 mul-if1 : tie.Need-mul-if1 Inv-loop μ-loop
-mul-if1 c = omega (arith, square-fits _ _ _ (c .before .loop .inv))
+mul-if1 c = omega (arith, square-fits (c .before .loop .inv))
 
 sub-span : tie.Need-sub-span Inv-loop μ-loop
 sub-span c = search needs
@@ -31,12 +31,12 @@ loop-again : tie.Need-loop-again Inv-loop μ-loop
 loop-again c =
     let i = c .before .before .loop in
     ⊎-elim
-    (λ w. rw (w .1) (within-above _ _ _ (i .inv) (omega arith) (w .0 .taken)))
-    (λ w. rw (w .1) (within-below _ _ _ (i .inv) (omega arith) (w .0 .left)))
+    (λ w. rw (w .1) (within-above (i .inv) (omega arith) (w .0 .taken)))
+    (λ w. rw (w .1) (within-below (i .inv) (omega arith) (w .0 .left)))
     (c .if1 .came)
 
 returns : tie.Need-returns Inv-loop μ-loop
-returns c = within-one _ _ _ (c .before .loop .inv) (omega arith)
+returns c = within-one (c .before .loop .inv) (omega arith)
 
 pub root-spec : {M : Type 1} → statement M
 root-spec =

@@ -38,7 +38,7 @@ loop-holds : tie.Need-loop-holds Inv-loop μ-loop
 loop-holds c =
     let k = c .before .before .clear in
     let fit = begin (c .before .before) .pre in
-    (refl, refl, refl, linked-start _ _ _ _ (record { few = fit .few; places = omega (arith, k .kept .0, fit .places); stages = fit .stages; head-in = fit .head-in }) (k .ensures .0))
+    (refl, refl, refl, linked-start (record { few = fit .few; places = omega (arith, k .kept .0, fit .places); stages = fit .stages; head-in = fit .head-in }) (k .ensures .0))
 
 mul-w : tie.Need-mul-w Inv-loop μ-loop
 mul-w c = search needs
@@ -83,7 +83,7 @@ loop-again : tie.Need-loop-again Inv-loop μ-loop
 loop-again c =
     let t = c .before .before in
     let k = t .before .loop .inv in
-    (k .0, simp length-set (k .1), simp length-set (k .2), linked-step _ _ _ _ _ _ _ (k .3) (room t .0) _ _ refl refl)
+    (k .0, simp length-set (k .1), simp length-set (k .2), linked-step (k .3) (room t .0) refl refl)
 
 same-length : tie.Need-same-length Inv-loop μ-loop
 same-length c = c .before .loop .inv .1 ∙ emptied (c .before) .clear .kept .0
@@ -94,7 +94,7 @@ same-length-2 c = c .before .loop .inv .2
 returns : tie.Need-returns Inv-loop μ-loop
 returns c =
     let l = c .before .loop in
-    linked-end _ _ _ _ _ _ _ _ (emptied (c .before) .clear .ensures .1) (l .inv .3) (omega (arith, l .inv .0, c .loop-test .left))
+    linked-end (emptied (c .before) .clear .ensures .1) (l .inv .3) (omega (arith, l .inv .0, c .loop-test .left))
 
 pub chain-spec : {M : Type 1} → statement M
 chain-spec =

@@ -55,13 +55,13 @@ returns c =
     let k = c .before .before in
     let t = k .before .before .before .before in
     let p = begin (read (t .before)) .pre in
-    lowered _ _ _ _ _ (p .0 .0) (p .0 .2) (p .1) _ (omega (arith, t .if1 .taken, read (t .before) .furlongs .ensures)) (k .change .ensures .0) (k .change .ensures .1)
+    lowered (p .0 .0) (p .0 .2) (p .1) (omega (arith, t .if1 .taken, read (t .before) .furlongs .ensures)) (k .change .ensures .0) (k .change .ensures .1)
 
 returns-2 : tie.Need-returns-2
 returns-2 c =
     let r = read (c .before) in
     let p = begin r .pre in
-    lowered-not _ _ _ _ _ (p .0 .0) (p .0 .2) (p .1) (omega (arith, c .if1 .left, r .furlongs .ensures))
+    lowered-not (p .0 .0) (p .0 .2) (p .1) (omega (arith, c .if1 .left, r .furlongs .ensures))
 
 pub lower-spec : {M : Type 1} → statement M
 lower-spec =

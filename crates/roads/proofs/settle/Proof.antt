@@ -34,7 +34,7 @@ inside : (c : tie.Else1 Inv-loop μ-loop) → c .before .top .result % pack < be
 inside c = next-in (begin (turn c .before) .pre .0) (turn c .loop .inv) (c .before .top .ensures) (c .if1 .left)
 
 loop-holds : tie.Need-loop-holds Inv-loop μ-loop
-loop-holds c = settling-start _ _ _ _ _ _ _ (begin c .pre .1 .1)
+loop-holds c = settling-start (begin c .pre .1 .1)
 
 top-requires : tie.Need-top-requires Inv-loop μ-loop
 top-requires c κs = c .before .loop .inv .after .halfway .played

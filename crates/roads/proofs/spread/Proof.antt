@@ -52,7 +52,7 @@ room c =
     (some, h, omega (arith, R .lengths-long), omega (arith, R .previous-long), R .tail-in i h, R .furlongs-high i h, R .down i h, R .few, l .inv .3 .halfway .long, l .inv .3 .halfway .near)
 
 loop-holds : tie.Need-loop-holds Inv-loop μ-loop
-loop-holds c = let p = begin c .pre .1 in (p .0, refl, refl, after-none _ _ _ _ (p .1), λ m v p K G Q. Q)
+loop-holds c = let p = begin c .pre .1 in (p .0, refl, refl, after-none (p .1), λ m v p K G Q. Q)
 
 sub-i : tie.Need-sub-i Inv-loop μ-loop
 sub-i c = search needs
@@ -108,9 +108,9 @@ loop-again c =
     let some = room t .0 in
     let y-is = k .before .onward .ensures ∙ ap (λ (x : ℕ). s .args .d .0 + x) (k .before .before .furlongs .ensures .0) in
     let next-is = c .wide2 .ensures in
-    let A = turn-after _ _ _ _ _ _ _ _ _ _ _ _ _ R some (l .inv .0) (l .inv .3 .halfway) (w .wide .ensures) y-is next-is (k .lower .kept .0) (k .lower .ensures) in
-    let F = turn-visit _ _ _ _ _ _ _ _ _ _ _ _ _ R some (l .inv .0) (l .inv .3 .halfway) (w .wide .ensures) y-is next-is (k .lower .kept .0) (k .lower .ensures) in
-    (omega (arith, next-is, room t), k .lower .kept .0 ∙ l .inv .1, k .lower .kept .1 .0 ∙ l .inv .2, after-then _ _ _ _ _ _ _ _ _ _ (l .inv .3) A, λ m v p K G Q. F m v p K G (l .inv .4 m v p K G Q))
+    let A = turn-after R some (l .inv .0) (l .inv .3 .halfway) (w .wide .ensures) y-is next-is (k .lower .kept .0) (k .lower .ensures) in
+    let F = turn-visit R some (l .inv .0) (l .inv .3 .halfway) (w .wide .ensures) y-is next-is (k .lower .kept .0) (k .lower .ensures) in
+    (omega (arith, next-is, room t), k .lower .kept .0 ∙ l .inv .1, k .lower .kept .1 .0 ∙ l .inv .2, after-then (l .inv .3) A, λ m v p K G Q. F m v p K G (l .inv .4 m v p K G Q))
 
 same-length : tie.Need-same-length Inv-loop μ-loop
 same-length c = search needs

@@ -48,7 +48,7 @@ loop-less : tie.Need-loop-less Inv-loop μ-loop
 loop-less c = search needs
 
 loop-again : tie.Need-loop-again Inv-loop μ-loop
-loop-again c = blank-step _ _ _ _ _ _ (c .before .loop .inv) (c .loop-test .taken)
+loop-again c = blank-step (c .before .loop .inv) (c .loop-test .taken)
 
 mul-column-2 : tie.Need-mul-column-2 Inv-loop μ-loop
 mul-column-2 c = search needs
