@@ -35,21 +35,17 @@ abbrev low : tie.After-slice-known4 Inv-loop μ-loop → tie.After-lower Inv-loo
 low c = c .before .before .before .before
 
 -- in a turn: what the stage's number is below, and the bounds of what stands there
-abbrev Room : tie.In-loop Inv-loop μ-loop → Type 0
-Room c =
-    let s = begin (c .before .before) .args in
-    let i = c .before .loop .j - 1 in
-    (0 < c .before .loop .j) × (i < length (s .tails .now)) × (i < length (s .lengths .now)) × (i < length (s .previous .now)) × (getD (s .tails .now) i 0 < s .n)
-    × (getD (s .lengths .now) i 0 ≤ mostFurlongs) × (getD (s .previous .now) i 0 ≤ i) × (s .n ≤ mostPlaces) × (s .n ≤ length (c .before .loop .column)) × (s .d .0 < far)
-
-room : (c : tie.In-loop Inv-loop μ-loop) → Room c
+room : (c : tie.In-loop Inv-loop μ-loop) → let s = begin (c .before .before) .args in let l = c .before .loop in let i = l .j - 1 in
+    (0 < l .j) × (i < length (s .tails .now)) × (i < length (s .lengths .now)) × (i < length (s .previous .now)) × (getD (s .tails .now) i 0 < s .n)
+    × (getD (s .lengths .now) i 0 ≤ mostFurlongs) × (getD (s .previous .now) i 0 ≤ i) × (s .n ≤ mostPlaces) × (s .n ≤ length (l .column)) × (s .d .0 < far)
 room c =
-    let R = begin (c .before .before) .pre .0 in
+    let s = begin (c .before .before) in
+    let R = s .pre .0 in
     let l = c .before .loop in
-    let i = l .j - 1 in
+    let H = l .inv .3 .halfway in
     let some : 0 < l .j = omega (arith, c .loop-test .taken) in
-    let h : i < length (begin (c .before .before) .args .tails .now) = omega (arith, l .inv .0) in
-    (some, h, omega (arith, R .lengths-long), omega (arith, R .previous-long), R .tail-in i h, R .furlongs-high i h, R .down i h, R .few, l .inv .3 .halfway .long, l .inv .3 .halfway .near)
+    let h : l .j - 1 < length (s .args .tails .now) = omega (arith, l .inv .0) in
+    (some, h, omega (arith, R .lengths-long), omega (arith, R .previous-long), R .tail-in _ h, R .furlongs-high _ h, R .down _ h, R .few, H .long, H .near)
 
 loop-holds : tie.Need-loop-holds Inv-loop μ-loop
 loop-holds c = let p = begin c .pre .1 in (p .0, refl, refl, after-none (p .1), λ m v p K G Q. Q)
