@@ -8,9 +8,10 @@ use Rattle.paper.specs.Served.{Served, refused, served}
 use Rattle.paper.specs.Map.{Map, Offices}
 use Rattle.paper.specs.Sheet.{word, mapOf, officesOf}
 use Rattle.paper.specs.Layout.{layout}
+use Rattle.paper.specs.Quest.{outward}
 use Rattle.paper.specs.Listing.{State, listing}
 use Rattle.paper.specs.Test.{orElse}
-use Rattle.paper.specs.Reply.{Reply, invalid, walkOut, replyBy, reply}
+use Rattle.paper.specs.Reply.{Reply, invalid, walkOut, replyBy, replyOn, reply}
 use Rattle.paper.specs.Printed.{refusalText, replyText, unfit, sheetIn, lentAnswer, lentWorking, programReply, Printed, misfit, unproven, replied}
 use Rattle.paper.proofs.Test.{or-right}
 use Rattle.paper.proofs.Reply.{Allowed, valid}
@@ -39,7 +40,7 @@ replied-true input n e J z = replied {table = J .table} e (rw z at (J .checked))
 
 -- no more offices are listed than there are
 pub count-most : (s : List ℕ) (q k : ℕ) (a w : List ℕ) → reply s q k a w .count ≤ officesOf s .count
-unfolding reply
+unfolding reply replyOn
 count-most s q k a w = go (orElse (layout s) (invalid (mapOf s) (officesOf s) q k a w)) refl
   where
     m : Map
@@ -48,13 +49,13 @@ count-most s q k a w = go (orElse (layout s) (invalid (mapOf s) (officesOf s) q 
     o : Offices
     o = officesOf s
 
-    walk : Allowed m o q k a w → (r : Served State) → walkOut o k a w r .count ≤ o .count
+    walk : Allowed m o q k a w → (r : Served State) → walkOut (o .count) k a w r .count ≤ o .count
     walk A (refused n) = omega arith
     walk A (served st) = A .enough
 
-    go : (n : ℕ) → orElse (layout s) (invalid m o q k a w) ≡ n → replyBy m o q k a w n .count ≤ o .count
+    go : (n : ℕ) → orElse (layout s) (invalid m o q k a w) ≡ n → replyBy m (outward o q) k a w n .count ≤ o .count
     go (suc n) e = omega arith
-    go zero e = walk (valid m o q k a w (or-right (layout s) _ e)) (listing m o q k)
+    go zero e = walk (valid m o q k a w (or-right (layout s) _ e)) (listing m (outward o q) k)
 
 pub program-is : (input : List ℕ) (q k : ℕ) (r : Reply) → q ≡ word input 0 → k ≡ word input 1 → r ≡ reply (sheetIn input) q k lentAnswer lentWorking → r ≡ programReply input
 unfolding programReply

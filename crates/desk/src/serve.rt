@@ -1,5 +1,11 @@
 // From the input's bytes to the bytes that are printed.
 use nearest::question;
+use paper::sizes::ASKED_BYTES;
+use paper::sizes::LINE_WORDS;
+use paper::sizes::PROGRAM_BYTES;
+use paper::sizes::PROGRAM_OFFICES;
+use paper::sizes::PROGRAM_PLACES;
+use paper::sizes::SLOT_WORDS;
 use sheet::Laid;
 use sheet::layout;
 use sheet::word;
@@ -14,30 +20,30 @@ ghost use Rattle.text.specs.Put.{Written};
 ghost use Rattle.text.specs.Room.{replyRoom};
 ghost use Rattle.desk.specs.Serve.{Judged, Serves};
 
-// The program's limits: bytes of the sheet, places, offices.
-const MOST_BYTES: usize = 65536;
+// Words of the slices that the program lends.
+const DISTANCES: usize = PROGRAM_PLACES * PROGRAM_PLACES;
 
-const MOST_PLACES: usize = 128;
+const ANSWER: usize = LINE_WORDS * PROGRAM_OFFICES;
 
-const MOST_OFFICES: usize = 1024;
+const WORKING: usize = SLOT_WORDS * PROGRAM_OFFICES;
 
 // The input's size (20), the layout (1 to 6), the limits on places and offices (20); 0 where none is due.
 fn unfit(input: &[u8]) -> u32
     ensures { λ r. ⌜ r ≡ unfitOf (now (input .entry)) ⌝ }
 {
-    if input.len() < 8 {
+    if input.len() < ASKED_BYTES {
         return 20;
     }
-    if 8 + MOST_BYTES < input.len() {
+    if ASKED_BYTES + PROGRAM_BYTES < input.len() {
         return 20;
     }
-    let laid = layout(&input[8..]);
+    let laid = layout(&input[ASKED_BYTES..]);
     match laid {
         Laid::Out(counts) => {
-            if MOST_PLACES < counts.places {
+            if PROGRAM_PLACES < counts.places {
                 return 20;
             }
-            if MOST_OFFICES < counts.offices {
+            if PROGRAM_OFFICES < counts.offices {
                 return 20;
             }
             0
@@ -50,7 +56,7 @@ fn unfit(input: &[u8]) -> u32
 fn untrue(sheet: &[u8]) -> u32
     ensures { λ r. ⌜ Judged (now (sheet .entry)) r ⌝ }
 {
-    let mut distances = [0u32; 16384];
+    let mut distances = [0u32; DISTANCES];
     check(sheet, &mut distances)
 }
 
@@ -69,11 +75,11 @@ fn ask(input: &[u8], output: &mut [u8]) -> usize
     requires { ⌜ (unfitOf (now input) ≡ 0) × (replyRoom programOffices ≤ length (now output)) ⌝ }
     ensures { λ r. ⌜ Written 0 (replyText (programReply (now (input .entry)))) (now (output .entry)) (now (output .exit)) r ⌝ }
 {
-    let mut answer = [0u64; 4096];
-    let mut working = [0u64; 6144];
+    let mut answer = [0u64; ANSWER];
+    let mut working = [0u64; WORKING];
     let q = word(input, 0);
     let k = word(input, 1);
-    let reply = question(&input[8..], q, k, &mut answer, &mut working);
+    let reply = question(&input[ASKED_BYTES..], q, k, &mut answer, &mut working);
     put_reply(
         output,
         reply.number,
@@ -92,7 +98,7 @@ pub fn serve(input: &[u8], output: &mut [u8]) -> usize
     if number != 0 {
         return refuse(output, number);
     }
-    let verdict = untrue(&input[8..]);
+    let verdict = untrue(&input[ASKED_BYTES..]);
     if verdict != 0 {
         return refuse(output, verdict);
     }

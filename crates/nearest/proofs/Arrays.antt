@@ -3,7 +3,7 @@ use Prim.Native.Nat.{ℕ}
 use native.Mathlib.Omega.{arith}
 use mathlib.Core.Path.{_≡_, sym, subst}
 use mathlib.Core.List.{List}
-use lib.ListN.{length, replicate, length-replicate}
+use lib.ListN.{replicate, length-replicate}
 use Rattle.paper.specs.declared.Counts.{Counts}
 use Rattle.paper.specs.Sizes.{mostPlaces, mostStages}
 use Rattle.paper.specs.Served.{Served}
@@ -21,16 +21,6 @@ stageZeros = replicate mostStages 0
 
 pub roomy : (c : Counts) → Within c → Roomy c placeZeros stageZeros stageZeros stageZeros
 roomy c W = record {
-  places = omega (arith, W .places, length-replicate {A = ℕ} mostPlaces 0);
-  tail = omega (arith, W .stages, length-replicate {A = ℕ} mostStages 0);
-  head = omega (arith, W .stages, length-replicate {A = ℕ} mostStages 0);
-  furlongs = omega (arith, W .stages, length-replicate {A = ℕ} mostStages 0);
-}
-
--- slices that kept their lengths
-pub roomy-kept : (c : Counts) → Within c → (a b d e : List ℕ) → length a ≡ length placeZeros → length b ≡ length stageZeros → length d ≡ length stageZeros
-    → length e ≡ length stageZeros → Roomy c a b d e
-roomy-kept c W a b d e p q r s = record {
   places = omega (arith, W .places, length-replicate {A = ℕ} mostPlaces 0);
   tail = omega (arith, W .stages, length-replicate {A = ℕ} mostStages 0);
   head = omega (arith, W .stages, length-replicate {A = ℕ} mostStages 0);

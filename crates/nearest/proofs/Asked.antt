@@ -1,24 +1,28 @@
--- The question's contract from its first clause, and the sheet that the layout hands over.
+-- The question's contract from its first clause.
 use Prim.Native.Nat.{ℕ}
-use mathlib.Core.Path.{_≡_, sym, subst, _∙_}
+use mathlib.Core.Path.{_≡_, sym, ap, subst, _∙_}
 use mathlib.Core.List.{List}
-use Rattle.paper.specs.declared.Counts.{Counts}
+use Rattle.paper.specs.Map.{Offices}
+use Rattle.paper.specs.Sheet.{mapOf, officesIn, officesOf}
 use Rattle.paper.specs.Layout.{Bytes, layout}
 use Rattle.paper.specs.Verdict.{Accepted}
-use Rattle.paper.specs.Reply.{Reply, reply, Valid, ListsNearest, RefinesThriftily}
+use Rattle.paper.specs.Reply.{Reply, replyOn, reply, Valid, ListsNearest, RefinesThriftily}
 use Rattle.paper.proofs.Reply.{reply-answered}
 use Rattle.sheet.specs.Laid.{laidOf}
 use Rattle.sheet.specs.declared.Laid.the-variants as laid
-use Rattle.sheet.proofs.Room.{laid-counts, laid-number}
-use Rattle.quadtree.specs.Ready.{Ready}
+use Rattle.sheet.proofs.Room.{laid-number}
 use Rattle.nearest.proofs.Replies.{early, reply-badly-laid}
 
-pub laid-ready : (s : List ℕ) (c : Counts) → laid.Out c ≡ laidOf s → Ready s c
-laid-ready s c e = let (l, same) = laid-counts s c e in record { laid = l; counts = same }
+-- over a sheet with nothing due in its layout, the reply is that over its map and its list
+pub laid-reply : (s : List ℕ) (q k : ℕ) (a w l : List ℕ) → layout s ≡ 0 → officesIn l ≡ officesOf s → replyOn 0 (mapOf s) (officesIn l) q k a w ≡ reply s q k a w
+unfolding reply
+laid-reply s q k a w l e same =
+    ap (λ (o : Offices). replyOn 0 (mapOf s) o q k a w) same ∙ ap (λ (n : ℕ). replyOn n (mapOf s) (officesOf s) q k a w) (sym e)
 
 -- refused by the layout: both slices untouched
 pub laid-refused : (s : List ℕ) (q k x : ℕ) (a w : List ℕ) → laid.Refused x ≡ laidOf s → early x a w ≡ reply s q k a w
-laid-refused s q k x a w e = let (n, is, l) = laid-number s x e in rw is (sym (reply-badly-laid s q k a w n l))
+unfolding reply
+laid-refused s q k x a w e = let (n, is, l) = laid-number s x e in rw is (sym (reply-badly-laid (layout s) (mapOf s) (officesOf s) q k a w n l))
 
 -- the clauses about an accepted sheet follow from the clause of the rules
 module _ (s : List ℕ) (q k : ℕ) (a w : List ℕ) (bytes : Bytes s) (r : Reply) (rules : r ≡ reply s q k a w) where

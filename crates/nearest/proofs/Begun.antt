@@ -9,33 +9,34 @@ use lib.Seq.{getD-set-same, getD-set-other, getD-at}
 use Rattle.mintree.specs.Mintree.{Played, Same}
 use Rattle.paper.specs.Sizes.{mostOffices, slotWords}
 use Rattle.paper.specs.Served.{Served, refused, served, andThen}
-use Rattle.paper.specs.Map.{Map, Offices}
+use Rattle.paper.specs.Map.{Map}
+use Rattle.paper.specs.Quest.{Quest}
 use Rattle.paper.specs.Trail.{Trail, start}
-use Rattle.paper.specs.Listing.{Slot, noSlot, at, starts, run, enough, listing}
+use Rattle.paper.specs.Listing.{Slot, noSlot, at, starts, begin, run, enough, listing}
 use Rattle.paper.proofs.Count.{below-suc, below-all}
 use Rattle.paper.proofs.Test.{true-false}
-use Rattle.paper.proofs.Fair.{Fair, begin, begun-fair}
+use Rattle.paper.proofs.LaidOut.{Grounded}
 use Rattle.nearest.specs.Working.{treeAt, key, Side, Stored, Held, Shown, Beyond}
-use Rattle.quadtree.specs.Ready.{Sane}
+use Rattle.quadtree.specs.Sane.{Sane}
 use Rattle.paper.proofs.Holds.{given}
 use Rattle.paper.proofs.Walk.{Walk, walk-start}
 use Rattle.nearest.specs.Going.{StartedNow, StartedAll}
 use Rattle.quadtree.proofs.Sizes.{start-sane}
 use Rattle.nearest.proofs.Hold.{side-same, stored-side, stored-key}
 
-module _ (m : Map) (o : Offices) (q : ℕ) where
+module _ (m : Map) (x : Quest) where
   abbrev n : ℕ
-  n = o .count
+  n = x .count
 
   -- the first i offices have their first intervals
   pub record Prefix (i : ℕ) (w : List ℕ) : Type 0 where
     pub slots : List Slot
-    pub begun : starts m o q i ≡ served slots
+    pub begun : starts m x i ≡ served slots
     pub size : length slots ≡ i
     pub waits : (j : ℕ) → j < i → at slots j .waits ≡ true
     pub fresh : (j : ℕ) → j < i → at slots j .trail .stages ≡ 0
     pub held : (j : ℕ) → j < i → Held w n j (at slots j .trail)
-    pub sane : (j : ℕ) → j < i → Sane m (at slots j .trail)
+    pub sane : (j : ℕ) → j < i → Sane (m .places) (at slots j .trail)
 
   pub prefix-none : (w : List ℕ) → Prefix 0 w
   unfolding starts
@@ -49,30 +50,30 @@ module _ (m : Map) (o : Offices) (q : ℕ) where
     sane = λ j p. absurd (omega arith);
   }
 
-  starts-next : (i : ℕ) (ss : List Slot) → starts m o q i ≡ served ss → starts m o q (suc i) ≡ andThen (start m q (o .stand i)) (λ t. served (ss ++ (record { trail = t; waits = true } ∷ [])))
+  starts-next : (i : ℕ) (ss : List Slot) → starts m x i ≡ served ss → starts m x (suc i) ≡ andThen (start m (x .from i) (x .to i)) (λ t. served (ss ++ (record { trail = t; waits = true } ∷ [])))
   unfolding starts
-  starts-next i ss e = ap (λ (x : Served (List Slot)). andThen x (λ ss. andThen (start m q (o .stand i)) (λ t. served (ss ++ (record { trail = t; waits = true } ∷ []))))) e
+  starts-next i ss e = ap (λ (r : Served (List Slot)). andThen r (λ ss. andThen (start m (x .from i) (x .to i)) (λ t. served (ss ++ (record { trail = t; waits = true } ∷ []))))) e
 
-  starts-stay : (i k e : ℕ) → starts m o q i ≡ refused e → i ≤ k → starts m o q k ≡ refused e
+  starts-stay : (i k e : ℕ) → starts m x i ≡ refused e → i ≤ k → starts m x k ≡ refused e
   unfolding starts
   starts-stay i zero e h p = let z : i ≡ 0 = omega arith in rw z at h
-  starts-stay i (suc k) e h p = below-suc (starts m o q (suc k) ≡ refused e) i (suc k) (omega arith) (λ z. rw z at h) (λ l. rw (starts-stay i k e h (omega arith)))
+  starts-stay i (suc k) e h p = below-suc (starts m x (suc k) ≡ refused e) i (suc k) (omega arith) (λ z. rw z at h) (λ l. rw (starts-stay i k e h (omega arith)))
 
   module _ {i : ℕ} {w : List ℕ} (P : Prefix i w) (p : i < n) where
-    pub prefix-refused : (e : ℕ) → start m q (o .stand i) ≡ refused e → starts m o q n ≡ refused e
+    pub prefix-refused : (e : ℕ) → start m (x .from i) (x .to i) ≡ refused e → starts m x n ≡ refused e
     prefix-refused e r =
-        starts-stay (suc i) n e (starts-next i (P .slots) (P .begun) ∙ ap (λ (x : Served Trail). andThen x (λ t. served (P .slots ++ (record { trail = t; waits = true } ∷ [])))) r) (omega arith)
+        starts-stay (suc i) n e (starts-next i (P .slots) (P .begun) ∙ ap (λ (r : Served Trail). andThen r (λ t. served (P .slots ++ (record { trail = t; waits = true } ∷ [])))) r) (omega arith)
 
-    pub prefix-more : (t : Trail) → start m q (o .stand i) ≡ served t → t .stages ≡ 0 → Sane m t → (w₁ : List ℕ) → slotWords * n ≤ length w → Stored i t w w₁
+    pub prefix-more : (t : Trail) → start m (x .from i) (x .to i) ≡ served t → t .stages ≡ 0 → Sane (m .places) t → (w₁ : List ℕ) → slotWords * n ≤ length w → Stored i t w w₁
         → Prefix (suc i) (set w₁ (treeAt n + (n + i)) (key (t .low) i))
     prefix-more t r z s w₁ long X = record {
       slots = ss′;
-      begun = starts-next i (P .slots) (P .begun) ∙ ap (λ (x : Served Trail). andThen x (λ t. served (P .slots ++ (record { trail = t; waits = true } ∷ [])))) r;
+      begun = starts-next i (P .slots) (P .begun) ∙ ap (λ (r : Served Trail). andThen r (λ t. served (P .slots ++ (record { trail = t; waits = true } ∷ [])))) r;
       size = omega (arith, length-append (P .slots) (y ∷ []), P .size);
       waits = below-all (λ j. at ss′ j .waits ≡ true) i (λ j l. rw (old j l) (P .waits j l)) (rw new refl);
       fresh = below-all (λ j. at ss′ j .trail .stages ≡ 0) i (λ j l. rw (old j l) (P .fresh j l)) (rw new z);
       held = below-all (λ j. Held w₂ n j (at ss′ j .trail)) i (λ j l. rw (old j l) (kept j l (P .held j l))) (rw new here);
-      sane = below-all (λ j. Sane m (at ss′ j .trail)) i (λ j l. rw (old j l) (P .sane j l)) (rw new s);
+      sane = below-all (λ j. Sane (m .places) (at ss′ j .trail)) i (λ j l. rw (old j l) (P .sane j l)) (rw new s);
     }
       where
         w₂ : List ℕ
@@ -104,7 +105,7 @@ module _ (m : Map) (o : Offices) (q : ℕ) where
 
   -- once the tree is built over them, the working slice shows them
   module _ {w : List ℕ} (P : Prefix n w) (few : n ≤ mostOffices) (long : slotWords * n ≤ length w) (w′ : List ℕ) (C : Same (treeAt n) n w w′) (Y : Played w′ (treeAt n) n) where
-    pub prefix-shown : Shown m (o .count) w′ (P .slots)
+    pub prefix-shown : Shown (m .places) (x .count) w′ (P .slots)
     prefix-shown = record {
       few = few;
       long = omega (arith, C .long);
@@ -118,55 +119,52 @@ module _ (m : Map) (o : Offices) (q : ℕ) where
       left = λ j l e. true-false (P .waits j l) e;
     }
 
-    pub prefix-fair : Fair m o (begin (P .slots))
-    prefix-fair = begun-fair m o (P .slots) (record { size = P .size; waits = P .waits; each = P .fresh })
-
-fresh-stages : (m : Map) (q v : ℕ) (t : Trail) → start m q v ≡ served t → t .stages ≡ 0
-fresh-stages m q v t e = given Walk (λ t. t .stages ≡ 0) (start m q v) t e (walk-start m q v)
+fresh-stages : (m : Map) (u v : ℕ) (t : Trail) → start m u v ≡ served t → t .stages ≡ 0
+fresh-stages m u v t e = given Walk (λ t. t .stages ≡ 0) (start m u v) t e (walk-start m u v)
 
 -- office i, whose first trail stands in the slice
-pub started-now : (m : Map) (o : Offices) (q i v : ℕ) (w w₁ : List ℕ) (t : Trail) (at x : ℕ) → q < m .places → v ≡ o .stand i → start m q v ≡ served t
-    → Stored i t w w₁ → at ≡ treeAt (o .count) + (o .count + i) → x ≡ key (t .low) i → StartedNow m o q i w (set w₁ at x)
-started-now m o q i v w w₁ t at x p e r X a y = record {
+pub started-now : {m : Map} → Grounded m → (x : Quest) (i u v : ℕ) (w w₁ : List ℕ) (t : Trail) (at y : ℕ) → u < m .places → v < m .places → u ≡ x .from i → v ≡ x .to i
+    → start m u v ≡ served t → Stored i t w w₁ → at ≡ treeAt (x .count) + (x .count + i) → y ≡ key (t .low) i → StartedNow m x i w (set w₁ at y)
+started-now {m} G x i u v w w₁ t at y p p′ d e r X a k = record {
   trail = t;
-  begun = rw (sym e) r;
-  sane = start-sane m q v t p r;
+  begun = rw (sym d, sym e) r;
+  sane = start-sane G u v t p p′ r;
   side = w₁;
   stored = X;
-  written = rw (a, y);
+  written = rw (a, k);
 }
 
-pub prefix-next : (m : Map) (o : Offices) (q : ℕ) {i : ℕ} {w : List ℕ} → Prefix m o q i w → i < o .count → slotWords * o .count ≤ length w
-    → (w′ : List ℕ) → StartedNow m o q i w w′ → Prefix m o q (i + 1) w′
-prefix-next m o q {i} {w} P p long w′ S =
+pub prefix-next : (m : Map) (x : Quest) {i : ℕ} {w : List ℕ} → Prefix m x i w → i < x .count → slotWords * x .count ≤ length w
+    → (w′ : List ℕ) → StartedNow m x i w w′ → Prefix m x (i + 1) w′
+prefix-next m x {i} {w} P p long w′ S =
     let e : i + 1 ≡ suc i = omega arith in
-    rw (e, S .written) (prefix-more m o q P p (S .trail) (S .begun) (fresh-stages m q (o .stand i) (S .trail) (S .begun)) (S .sane) (S .side) long (S .stored))
+    rw (e, S .written) (prefix-more m x P p (S .trail) (S .begun) (fresh-stages m (x .from i) (x .to i) (S .trail) (S .begun)) (S .sane) (S .side) long (S .stored))
 
 pub built-beyond : (n : ℕ) (w w′ : List ℕ) → Same (treeAt n) n w w′ → Beyond (slotWords * n) w w′
 built-beyond n w w′ C = record { long = C .long; rest = λ k p. C .after k (omega arith) }
 
 -- every first interval stands in the slice, and the tree is built; the code counts n offices
-pub started-all : (m : Map) (o : Offices) (q n i : ℕ) (w : List ℕ) → n ≡ o .count → i ≡ n → Prefix m o q i w → n ≤ mostOffices → slotWords * n ≤ length w
-    → (w′ : List ℕ) → Same (treeAt n) n w w′ → Played w′ (treeAt n) n → StartedAll m o q w′
-started-all m o q n i w e z P few long w′ C Y =
-    let here : Prefix m o q (o .count) w = subst (λ (k : ℕ). Prefix m o q k w) (z ∙ e) P in
-    let C′ : Same (treeAt (o .count)) (o .count) w w′ = subst (λ (k : ℕ). Same (treeAt k) k w w′) e C in
-    let Y′ : Played w′ (treeAt (o .count)) (o .count) = subst (λ (k : ℕ). Played w′ (treeAt k) k) e Y in
+pub started-all : (m : Map) (x : Quest) (n i : ℕ) (w : List ℕ) → n ≡ x .count → i ≡ n → Prefix m x i w → n ≤ mostOffices → slotWords * n ≤ length w
+    → (w′ : List ℕ) → Same (treeAt n) n w w′ → Played w′ (treeAt n) n → StartedAll m x w′
+started-all m x n i w e z P few long w′ C Y =
+    let here : Prefix m x (x .count) w = subst (λ (k : ℕ). Prefix m x k w) (z ∙ e) P in
+    let C′ : Same (treeAt (x .count)) (x .count) w w′ = subst (λ (k : ℕ). Same (treeAt k) k w w′) e C in
+    let Y′ : Played w′ (treeAt (x .count)) (x .count) = subst (λ (k : ℕ). Played w′ (treeAt k) k) e Y in
     record {
       begun = record {
         slots = here .slots;
-        shown = prefix-shown m o q here (omega arith) (omega arith) w′ C′ Y′;
-        fair = prefix-fair m o q here (omega arith) (omega arith) w′ C′ Y′;
+        shown = prefix-shown m x here (omega arith) (omega arith) w′ C′ Y′;
+        fresh = record { waits = here .waits; none = here .fresh };
       };
       starts = here .begun;
     }
 
 -- the listing, by what the first intervals come to
-module _ (m : Map) (o : Offices) (q k : ℕ) where
-  pub listing-refused : (e : ℕ) → starts m o q (o .count) ≡ refused e → listing m o q k ≡ refused e
+module _ (m : Map) (x : Quest) (k : ℕ) where
+  pub listing-refused : (e : ℕ) → starts m x (x .count) ≡ refused e → listing m x k ≡ refused e
   unfolding listing
   listing-refused e r = rw r
 
-  pub listing-started : (ss : List Slot) → starts m o q (o .count) ≡ served ss → listing m o q k ≡ run m o (enough m o k) k (begin ss)
+  pub listing-started : (ss : List Slot) → starts m x (x .count) ≡ served ss → listing m x k ≡ run m x (enough m x k) k (begin ss)
   unfolding listing
   listing-started ss r = rw r

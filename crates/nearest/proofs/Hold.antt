@@ -11,13 +11,12 @@ use lib.Seq.{getD-set-other}
 use Rattle.mintree.specs.Mintree.{Played, Same}
 use Rattle.mintree.proofs.Laws.{word-new, word-other}
 use Rattle.paper.specs.Sizes.{slotWords}
-use Rattle.paper.specs.Map.{Map}
 use Rattle.paper.specs.Trail.{Trail}
 use Rattle.paper.specs.Listing.{Slot, at, retired}
 use Rattle.paper.proofs.Test.{true-false}
 use Rattle.paper.proofs.Slots.{set-all}
 use Rattle.nearest.specs.Working.{sideWords, treeAt, gone, keyIn, Side, Stored, Held, Shown, Beyond}
-use Rattle.quadtree.specs.Ready.{Sane}
+use Rattle.quadtree.specs.Sane.{Sane}
 
 -- the words of the offices beside the tree are kept
 pub side-same : {w w′ : List ℕ} {j : ℕ} {t : Trail} → ((k : ℕ) → k < sideWords * j + sideWords → sideWords * j ≤ k → getD w′ k 0 ≡ getD w k 0) → Side w j t → Side w′ j t
@@ -59,12 +58,12 @@ module _ (n i v : ℕ) (w w′ : List ℕ) (p : i < n) (C : Same (treeAt n) n (s
     rest = λ k h. C .after k (omega arith) ∙ getD-set-other w (treeAt n + (n + i)) k v 0 (omega arith);
   }
 
-module _ {m : Map} {n : ℕ} {w : List ℕ} {ss : List Slot} (S : Shown m n w ss) (i : ℕ) (p : i < n) where
+module _ {places n : ℕ} {w : List ℕ} {ss : List Slot} (S : Shown places n w ss) (i : ℕ) (p : i < n) where
   inside : i < length ss
   inside = omega (arith, S .size)
 
   -- office i has left
-  pub retire : (w′ : List ℕ) → Same (treeAt n) n (set w (treeAt n + (n + i)) gone) w′ → Played w′ (treeAt n) n → Shown m n w′ (retired ss i)
+  pub retire : (w′ : List ℕ) → Same (treeAt n) n (set w (treeAt n + (n + i)) gone) w′ → Played w′ (treeAt n) n → Shown places n w′ (retired ss i)
   retire w′ C P = record {
     few = S .few;
     long = omega (arith, S .long, changed-beyond n i gone w w′ p C .long);
@@ -76,7 +75,7 @@ module _ {m : Map} {n : ℕ} {w : List ℕ} {ss : List Slot} (S : Shown m n w ss
           side = changed-side n i gone w w′ p C j _ q (S .held j q e .side);
           low = word-other w w′ (treeAt n) n i gone C j ne ∙ S .held j q e .low;
         });
-    sane = set-all (λ j s. j < n → s .waits ≡ true → Sane m (s .trail)) ss i y inside (λ q e. true-false e refl) (λ j ne. S .sane j);
+    sane = set-all (λ j s. j < n → s .waits ≡ true → Sane places (s .trail)) ss i y inside (λ q e. true-false e refl) (λ j ne. S .sane j);
     left = set-all (λ j s. j < n → s .waits ≡ false → keyIn w′ n j ≡ gone) ss i y inside
         (λ q e. word-new w w′ (treeAt n) n i gone C (S .played .room) p)
         (λ j ne q e. word-other w w′ (treeAt n) n i gone C j ne ∙ S .left j q e);

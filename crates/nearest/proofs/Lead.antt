@@ -12,13 +12,12 @@ use borrow.Author.Tests.{lt-ltb, le-ltb}
 use Rattle.mintree.specs.Mintree.{Least}
 use Rattle.paper.specs.Sizes.{mostOffices}
 use Rattle.paper.specs.Order.{Before, before}
-use Rattle.paper.specs.Map.{Map}
 use Rattle.paper.specs.Trail.{Trail}
 use Rattle.paper.specs.Listing.{Slot, at, lowOf, leader, retired, clear}
 use Rattle.paper.proofs.Test.{true-false}
-use Rattle.paper.proofs.Leader.{Leads, leader-law, before-of, before-true}
+use Rattle.paper.proofs.Leader.{Leads, leader-law, before-true}
 use Rattle.paper.proofs.Leader as laws
-use Rattle.paper.proofs.Slots.{retired-trail}
+use Rattle.paper.proofs.Slots.{retired-trail, clear-of}
 use Rattle.nearest.specs.Working.{treeAt, key, gone, Shown}
 
 -- there is one leader
@@ -33,7 +32,7 @@ leads-one ss n i L = go (leader ss n) refl (leader-law ss n)
         let same : j ≡ i = omega (arith, a .le, b .le, a .tie (b .le), b .tie (a .le)) in
         e ∙ ap some same
 
-module _ {m : Map} {n : ℕ} {w : List ℕ} {ss : List Slot} (S : Shown m n w ss) (r : ℕ) (L : Least w (treeAt n) n r) where
+module _ {places n : ℕ} {w : List ℕ} {ss : List Slot} (S : Shown places n w ss) (r : ℕ) (L : Least w (treeAt n) n r) where
   -- the least word is a waiting office's
   waits-at : r < gone → (b : Bool) → at ss (L .at) .waits ≡ b → at ss (L .at) .waits ≡ true
   waits-at h true e = e
@@ -67,24 +66,20 @@ module _ {m : Map} {n : ℕ} {w : List ℕ} {ss : List Slot} (S : Shown m n w ss
   lead-none h j p = go (at ss j .waits) refl
     where
       go : (b : Bool) → at ss j .waits ≡ b → at ss j .waits ≡ false
-      go true e = absurd (omega (arith, L .least j p, S .held j p e .low, S .sane j p e .low, S .few))
+      go true e = absurd (omega (arith, L .least j p, S .held j p e .low, S .sane j p e .ordered, S .sane j p e .high, S .few))
       go false e = e
 
-module _ {m : Map} {n : ℕ} {w : List ℕ} (ss : List Slot) (i : ℕ) (here : i < length ss) (S : Shown m n w (retired ss i)) (r : ℕ)
+module _ {places n : ℕ} {w : List ℕ} (ss : List Slot) (i : ℕ) (here : i < length ss) (S : Shown places n w (retired ss i)) (r : ℕ)
     (L : Least w (treeAt n) n r) (small : i < n) where
   low-kept : (j : ℕ) → lowOf (retired ss i) j ≡ lowOf ss j
   low-kept j = ap (λ (t : Trail). t .low) (retired-trail ss i here j)
 
   -- the high end and the number, packed, come before the least word of the rest: nobody comes between
   pub clear-when : (h : ℕ) → h ≡ at ss i .trail .high → key h i < r → clear ss i (leader (retired ss i) n) ≡ true
-  clear-when h e lt = go (leader (retired ss i) n) (leader-law (retired ss i) n)
-    where
-      go : (l : Option ℕ) → laws.Least (retired ss i) n l → clear ss i l ≡ true
-      go none n = refl
-      go (some j) n = before-of (at ss i .trail .high) i (lowOf ss j) j (record {
-        le = omega (arith, L .least j (n .here), S .held j (n .here) (n .waits) .low, low-kept j, n .here, S .few);
-        tie = λ q. omega (arith, L .least j (n .here), S .held j (n .here) (n .waits) .low, low-kept j, n .here, S .few);
-      })
+  clear-when h e lt = clear-of ss i here n (λ j p wait. record {
+    le = omega (arith, L .least j p, S .held j p wait .low, low-kept j, p, S .few);
+    tie = λ q. omega (arith, L .least j p, S .held j p wait .low, low-kept j, p, S .few);
+  })
 
   pub clear-not : (h : ℕ) → h ≡ at ss i .trail .high → h < 2 ^ 51 → r ≤ key h i → clear ss i (leader (retired ss i) n) ≡ false
   clear-not h e fits le = rw (leads-one (retired ss i) n (L .at) D) (go (before (at ss i .trail .high) i (lowOf ss (L .at)) (L .at)) refl)

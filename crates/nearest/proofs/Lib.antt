@@ -8,7 +8,6 @@ pub mod Stores
 pub mod Take
 pub mod Steps
 pub mod Replies
-pub mod Offices
 pub mod Advance
 pub mod Progress
 pub mod Arrays

@@ -8,19 +8,18 @@ use mathlib.Core.List.{List}
 use lib.ListN.{length, set, length-set}
 use Rattle.mintree.specs.Mintree.{Room, Played, Same}
 use Rattle.mintree.proofs.Laws.{word-new, word-other}
-use Rattle.paper.specs.Map.{Map}
 use Rattle.paper.specs.Trail.{Trail}
 use Rattle.paper.specs.Listing.{Slot, at, retired, refined}
 use Rattle.paper.proofs.Test.{true-false}
 use Rattle.paper.proofs.Slots.{set-all}
 use Rattle.nearest.specs.Working.{treeAt, key, gone, keyIn, Stored, Held, Shown}
-use Rattle.quadtree.specs.Ready.{Sane}
+use Rattle.quadtree.specs.Sane.{Sane}
 use Rattle.nearest.proofs.Hold.{stored-side, stored-key, changed-side, changed-beyond}
 
 -- office i is put back with the trail t
-module _ {m : Map} {n : ℕ} {w : List ℕ} (ss : List Slot) (i : ℕ) (p : i < n) (S : Shown m n w (retired ss i))
+module _ {places n : ℕ} {w : List ℕ} (ss : List Slot) (i : ℕ) (p : i < n) (S : Shown places n w (retired ss i))
     (t : Trail) (w₁ w₂ : List ℕ) (X : Stored i t w w₁) (x : ℕ) (e : x ≡ key (t .low) i) (C : Same (treeAt n) n (set w₁ (treeAt n + (n + i)) x) w₂)
-    (P : Played w₂ (treeAt n) n) (sane : Sane m t) where
+    (P : Played w₂ (treeAt n) n) (sane : Sane places t) where
   abbrev y : Slot
   y = record { trail = t; waits = true }
 
@@ -43,7 +42,7 @@ module _ {m : Map} {n : ℕ} {w : List ℕ} (ss : List Slot) (i : ℕ) (p : i < 
   room : Room w₁ (treeAt n) n
   room = record { some = omega arith; ends = omega (arith, S .played .room .ends, X .long) }
 
-  pub put-back : Shown m n w₂ (refined ss i t)
+  pub put-back : Shown places n w₂ (refined ss i t)
   put-back = record {
     few = S .few;
     long = omega (arith, S .long, X .long, changed-beyond n i x w₁ w₂ p C .long);
@@ -60,7 +59,7 @@ module _ {m : Map} {n : ℕ} {w : List ℕ} (ss : List Slot) (i : ℕ) (p : i < 
           side = changed-side n i x w₁ w₂ p C j _ q (stored-side X j _ ne (H .side));
           low = key-other j ne ∙ H .low;
         });
-    sane = set-all (λ j s. j < n → s .waits ≡ true → Sane m (s .trail)) ss i y inside (λ q z. sane)
+    sane = set-all (λ j s. j < n → s .waits ≡ true → Sane places (s .trail)) ss i y inside (λ q z. sane)
         (λ j ne q z. rw (other j ne) at (S .sane j q (rw (other j ne) z)));
     left = set-all (λ j s. j < n → s .waits ≡ false → keyIn w₂ n j ≡ gone) ss i y inside (λ q z. true-false refl z)
         (λ j ne q z. key-other j ne ∙ S .left j q (rw (other j ne) z));

@@ -9,43 +9,32 @@ use lib.ListN.{length}
 use borrow.Author.Tests.{lt-ltb, le-ltb, lt-leb, le-leb}
 use Rattle.paper.specs.Sizes.{lineWords, slotWords}
 use Rattle.paper.specs.Test.{both, due}
-use Rattle.paper.specs.Served.{refused, served}
 use Rattle.paper.specs.Map.{Map, Offices}
-use Rattle.paper.specs.Sheet.{mapOf, officesOf}
-use Rattle.paper.specs.Layout.{layout}
-use Rattle.paper.specs.Listing.{State, listing}
-use Rattle.paper.specs.Reply.{Reply, invalid, walkOut, replyBy, reply}
+use Rattle.paper.specs.Quest.{Quest, outward}
+use Rattle.paper.specs.Listing.{listing}
+use Rattle.paper.specs.Reply.{Reply, invalid, ValidOn, walkOut, replyBy, replyOn}
 use Rattle.paper.proofs.Test.{or-first, or-next, both-true, both-false-left, both-false-right}
 
 -- refused before the walk: both slices untouched
 abbrev pub early : ℕ → List ℕ → List ℕ → Reply
 early n answer working = record { number = n; count = 0; refinements = 0; answer = answer; working = working }
 
-module _ (s : List ℕ) (q k : ℕ) (answer working : List ℕ) where
-  abbrev m : Map
-  m = mapOf s
+module _ (laid : ℕ) (m : Map) (o : Offices) (q k : ℕ) (answer working : List ℕ) where
+  abbrev x : Quest
+  x = outward o q
 
-  abbrev o : Offices
-  o = officesOf s
+  pub reply-badly-laid : (n : ℕ) → laid ≡ suc n → replyOn laid m o q k answer working ≡ early (suc n) answer working
+  unfolding replyOn
+  reply-badly-laid n e = ap (replyBy m x k answer working) (or-first laid (invalid m o q k answer working) n e)
 
-  pub reply-badly-laid : (n : ℕ) → layout s ≡ suc n → reply s q k answer working ≡ early (suc n) answer working
-  unfolding reply
-  reply-badly-laid n e = ap (replyBy m o q k answer working) (or-first (layout s) (invalid m o q k answer working) n e)
+  module _ (l : laid ≡ 0) where
+    pub reply-invalid : (n : ℕ) → invalid m o q k answer working ≡ suc n → replyOn laid m o q k answer working ≡ early (suc n) answer working
+    unfolding replyOn
+    reply-invalid n e = ap (replyBy m x k answer working) (or-next laid (invalid m o q k answer working) l ∙ e)
 
-  pub reply-invalid : layout s ≡ 0 → (n : ℕ) → invalid m o q k answer working ≡ suc n → reply s q k answer working ≡ early (suc n) answer working
-  unfolding reply
-  reply-invalid l n e = ap (replyBy m o q k answer working) (or-next (layout s) (invalid m o q k answer working) l ∙ e)
-
-  walk-reply : layout s ≡ 0 → invalid m o q k answer working ≡ 0 → reply s q k answer working ≡ walkOut o k answer working (listing m o q k)
-  unfolding reply
-  walk-reply l e = ap (replyBy m o q k answer working) (or-next (layout s) (invalid m o q k answer working) l ∙ e)
-
-  module _ (l : layout s ≡ 0) (e : invalid m o q k answer working ≡ 0) where
-    pub reply-done : (st : State) → listing m o q k ≡ served st → reply s q k answer working ≡ walkOut o k answer working (served st)
-    reply-done st r = walk-reply l e ∙ ap (walkOut o k answer working) r
-
-    pub reply-refused : (n : ℕ) → listing m o q k ≡ refused n → reply s q k answer working ≡ walkOut o k answer working (refused n)
-    reply-refused n r = walk-reply l e ∙ ap (walkOut o k answer working) r
+    pub walk-reply : ValidOn m o q k answer working → replyOn laid m o q k answer working ≡ walkOut (o .count) k answer working (listing m x k)
+    unfolding replyOn
+    walk-reply e = ap (replyBy m x k answer working) (or-next laid (invalid m o q k answer working) l ∙ e)
 
 -- 7, 8 and 9, by the tests that the code makes
 module _ (m : Map) (o : Offices) (q k : ℕ) (answer working : List ℕ) where

@@ -5,33 +5,34 @@ use mathlib.Core.Bool.{Bool, true, false}
 use mathlib.Core.Option.{some}
 use Rattle.paper.specs.Served.{Served, refused, served, andThen}
 use Rattle.paper.specs.declared.Trail as code
-use Rattle.paper.specs.Map.{Map, Offices}
+use Rattle.paper.specs.Map.{Map}
+use Rattle.paper.specs.Quest.{Quest}
 use Rattle.paper.specs.Trail.{Trail, refine}
 use Rattle.quadtree.specs.Walks.{trailOf, trailBy, stepOf}
 use Rattle.quadtree.specs.declared.walk.Step.the-variants as step
 use Rattle.paper.specs.Listing.{State, at, leader, retired, clear, listed, walkedOn, move, step}
 
-module _ (m : Map) (o : Offices) (st : State) (i : ℕ) (L : leader (st .slots) (o .count) ≡ some i) where
+module _ (m : Map) (x : Quest) (st : State) (i : ℕ) (L : leader (st .slots) (x .count) ≡ some i) where
   abbrev alone : Bool
-  alone = clear (st .slots) i (leader (retired (st .slots) i) (o .count))
+  alone = clear (st .slots) i (leader (retired (st .slots) i) (x .count))
 
   abbrev refined-once : Served Trail
-  refined-once = refine m (o .stand i) (at (st .slots) i .trail)
+  refined-once = refine m (x .to i) (at (st .slots) i .trail)
 
   abbrev moved : Bool → Served Trail → Served State
-  moved b r = elim b [ true ↦ served (listed st i) | false ↦ andThen r (λ t. served (walkedOn st i t)) ]
+  moved b r = elim b [ true ↦ served (listed x st i) | false ↦ andThen r (λ t. served (walkedOn st i t)) ]
 
-  step-led : step m o st ≡ moved alone refined-once
+  step-led : step m x st ≡ moved alone refined-once
   unfolding step
-  step-led = ap (move m o st) L
+  step-led = ap (move m x st) L
 
-  pub step-listed : alone ≡ true → step m o st ≡ served (listed st i)
+  pub step-listed : alone ≡ true → step m x st ≡ served (listed x st i)
   step-listed e = step-led ∙ ap (λ (b : Bool). moved b refined-once) e
 
-  pub step-walked : alone ≡ false → (t : Trail) → refined-once ≡ served t → step m o st ≡ served (walkedOn st i t)
+  pub step-walked : alone ≡ false → (t : Trail) → refined-once ≡ served t → step m x st ≡ served (walkedOn st i t)
   step-walked e t r = step-led ∙ ap (λ (b : Bool). moved b refined-once) e ∙ ap (moved false) r
 
-  pub step-refused : alone ≡ false → (n : ℕ) → refined-once ≡ refused n → step m o st ≡ refused n
+  pub step-refused : alone ≡ false → (n : ℕ) → refined-once ≡ refused n → step m x st ≡ refused n
   step-refused e n r = step-led ∙ ap (λ (b : Bool). moved b refined-once) e ∙ ap (moved false) r
 
 -- what an answer of the code says of the definitions' one

@@ -1,54 +1,58 @@
--- Four stores in a row, and words set to 0 one after the other.
+-- Words stored one after the other, and words set to 0.
 use Prim.Native.Nat.{ℕ, zero, suc, _+_, _*_, _≤_, _<_}
 use native.Mathlib.Omega.{arith}
 use mathlib.Core.Path.{_≡_, refl, sym, _∙_}
-use mathlib.Core.Logic.{_≢_}
 use mathlib.Core.List.{List, [], _∷_}
 use lib.ListN.{length, getD, set, drop, replicate, length-set, length-append, length-drop, length-replicate, getD-replicate, List·getD-append}
 use lib.Seq.{getD-set-same, getD-set-other}
 use Rattle.paper.specs.Sizes.{lineWords}
+use Rattle.paper.specs.Trail.{Trail}
+use Rattle.paper.specs.Listing.{Line}
+use Rattle.paper.specs.Reply.{lineOut}
 use Rattle.paper.specs.Slice.{cleared}
 use Rattle.nearest.specs.Working.{sideWords, Stored}
 use Rattle.nearest.specs.Going.{Wrote}
 use Rattle.paper.proofs.Count.{below-all}
 use Rattle.nearest.proofs.Text.{by-parts, after-part}
 
--- w with a, b, c, d at the index i and after it
-abbrev pub four : List ℕ → ℕ → ℕ → ℕ → ℕ → ℕ → List ℕ
-four w i a b c d = set (set (set (set w i a) (i + 1) b) (i + 2) c) (i + 3) d
+-- the index j places after i, as the code writes it
+abbrev pub after : ℕ → ℕ → ℕ
+after i zero = i
+after i (suc j) = i + suc j
 
-module _ (w : List ℕ) (i a b c d : ℕ) where
-  abbrev w₁ : List ℕ
-  w₁ = set w i a
+after-is : (i j : ℕ) → after i j ≡ i + j
+after-is i zero = omega arith
+after-is i (suc j) = refl
 
-  abbrev w₂ : List ℕ
-  w₂ = set w₁ (i + 1) b
+-- w with the words vs, one after the other, from j places after i on
+unfoldable pub puts : List ℕ → ℕ → ℕ → List ℕ → List ℕ
+puts w i j [] = w
+puts w i j (v ∷ vs) = puts (set w (after i j) v) i (suc j) vs
 
-  abbrev w₃ : List ℕ
-  w₃ = set w₂ (i + 2) c
+pub puts-long : (w : List ℕ) (i j : ℕ) (vs : List ℕ) → length (puts w i j vs) ≡ length w
+unfolding puts
+puts-long w i j [] = refl
+puts-long w i j (v ∷ vs) = puts-long (set w (after i j) v) i (suc j) vs ∙ length-set w (after i j) v
 
-  pub four-long : length (four w i a b c d) ≡ length w
-  four-long = simp length-set
+pub puts-before : (w : List ℕ) (i j : ℕ) (vs : List ℕ) (k : ℕ) → k < i + j → getD (puts w i j vs) k 0 ≡ getD w k 0
+unfolding puts
+puts-before w i j [] k p = refl
+puts-before w i j (v ∷ vs) k p = puts-before (set w (after i j) v) i (suc j) vs k (omega arith) ∙ getD-set-other w (after i j) k v 0 (λ e. omega (arith, after-is i j))
 
-  pub four-other : (k : ℕ) → k ≢ i → k ≢ i + 1 → k ≢ i + 2 → k ≢ i + 3 → getD (four w i a b c d) k 0 ≡ getD w k 0
-  four-other k p q r s = getD-set-other w₃ (i + 3) k d 0 s ∙ getD-set-other w₂ (i + 2) k c 0 r ∙ getD-set-other w₁ (i + 1) k b 0 q ∙ getD-set-other w i k a 0 p
+pub puts-after : (w : List ℕ) (i j : ℕ) (vs : List ℕ) (k : ℕ) → i + j + length vs ≤ k → getD (puts w i j vs) k 0 ≡ getD w k 0
+unfolding puts
+puts-after w i j [] k p = refl
+puts-after w i j (v ∷ vs) k p = puts-after (set w (after i j) v) i (suc j) vs k (omega arith) ∙ getD-set-other w (after i j) k v 0 (λ e. omega (arith, after-is i j))
 
-  module _ (fits : i + 4 ≤ length w) where
-    pub four-0 : getD (four w i a b c d) i 0 ≡ a
-    four-0 =
-        getD-set-other w₃ (i + 3) i d 0 (omega arith) ∙ getD-set-other w₂ (i + 2) i c 0 (omega arith) ∙ getD-set-other w₁ (i + 1) i b 0 (omega arith)
-        ∙ getD-set-same w i a 0 (omega arith)
-
-    pub four-1 : getD (four w i a b c d) (i + 1) 0 ≡ b
-    four-1 =
-        getD-set-other w₃ (i + 3) (i + 1) d 0 (omega arith) ∙ getD-set-other w₂ (i + 2) (i + 1) c 0 (omega arith)
-        ∙ getD-set-same w₁ (i + 1) b 0 (simp length-set (omega arith))
-
-    pub four-2 : getD (four w i a b c d) (i + 2) 0 ≡ c
-    four-2 = getD-set-other w₃ (i + 3) (i + 2) d 0 (omega arith) ∙ getD-set-same w₂ (i + 2) c 0 (simp length-set (omega arith))
-
-    pub four-3 : getD (four w i a b c d) (i + 3) 0 ≡ d
-    four-3 = getD-set-same w₃ (i + 3) d 0 (simp length-set (omega arith))
+pub puts-at : (w : List ℕ) (i j : ℕ) (vs : List ℕ) → i + j + length vs ≤ length w → (a : ℕ) → a < length vs → getD (puts w i j vs) (i + j + a) 0 ≡ getD vs a 0
+unfolding puts
+puts-at w i j [] h a p = absurd (omega arith)
+puts-at w i j (v ∷ vs) h zero p =
+    let e : i + j + 0 ≡ after i j = omega (arith, after-is i j) in
+    rw e (puts-before (set w (after i j) v) i (suc j) vs (after i j) (omega (arith, after-is i j)) ∙ getD-set-same w (after i j) v 0 (omega (arith, after-is i j)))
+puts-at w i j (v ∷ vs) h (suc a) p =
+    let e : i + j + suc a ≡ i + suc j + a = omega arith in
+    rw e (puts-at (set w (after i j) v) i (suc j) vs (omega (arith, length-set w (after i j) v)) a (omega arith))
 
 -- the first i words of a are 0, the rest is that of a₀
 pub record Zeroed (a₀ a : List ℕ) (i : ℕ) : Type 0 where
@@ -73,31 +77,28 @@ zeroed-all a₀ a n i Z e h = by-parts n a (cleared n a₀)
     (λ k p. Z .rest k (omega arith) ∙ sym (after-part (replicate n 0) a₀ n k (length-replicate {A = ℕ} n 0) p))
 
 -- the words of an office, and those of a line
-pub stored-four : (w : List ℕ) (i via walked high stages low : ℕ) → sideWords * i + sideWords ≤ length w
-    → Stored i (record { via = via; walked = walked; low = low; high = high; stages = stages }) w (four w (sideWords * i) via walked high stages)
-stored-four w i a b c d low h =
-    let at : ℕ = sideWords * i in
-    record {
-      long = four-long w at a b c d;
-      side = record { via = four-0 w at a b c d h; walked = four-1 w at a b c d h; high = four-2 w at a b c d h; stages = four-3 w at a b c d h };
-      before = λ k p. four-other w at a b c d k (omega arith) (omega arith) (omega arith) (omega arith);
-      after = λ k p. four-other w at a b c d k (omega arith) (omega arith) (omega arith) (omega arith);
-    }
-
-pub wrote-four : (w : List ℕ) (r number low high stages : ℕ) → lineWords * r + lineWords ≤ length w
-    → Wrote r (record { number = number; low = low; high = high; stages = stages }) w (four w (lineWords * r) number low high stages)
-wrote-four w r a b c d h =
-    let at : ℕ = lineWords * r in
-    record {
-      long = four-long w at a b c d;
-      words = word;
-      before = λ k p. four-other w at a b c d k (omega arith) (omega arith) (omega arith) (omega arith);
-      after = λ k p. four-other w at a b c d k (omega arith) (omega arith) (omega arith) (omega arith);
-    }
+pub stored-puts : (w : List ℕ) (i : ℕ) (t : Trail) → sideWords * i + sideWords ≤ length w
+    → Stored i t w (puts w (sideWords * i) 0 (t .via ∷ t .walked ∷ t .high ∷ t .stages ∷ []))
+stored-puts w i t h = record {
+  long = puts-long w at 0 vs;
+  side = record { via = word 0 (omega arith); walked = word 1 (omega arith); high = word 2 (omega arith); stages = word 3 (omega arith) };
+  before = λ k p. puts-before w at 0 vs k (omega arith);
+  after = λ k p. puts-after w at 0 vs k (omega arith);
+}
   where
-    word : (j : ℕ) → j < lineWords → getD (four w (lineWords * r) a b c d) (lineWords * r + j) 0 ≡ getD (a ∷ b ∷ c ∷ d ∷ []) j 0
-    word zero p = let e : lineWords * r + 0 ≡ lineWords * r = omega arith in rw e (four-0 w (lineWords * r) a b c d h)
-    word (suc zero) p = four-1 w (lineWords * r) a b c d h
-    word (suc (suc zero)) p = four-2 w (lineWords * r) a b c d h
-    word (suc (suc (suc zero))) p = four-3 w (lineWords * r) a b c d h
-    word (suc (suc (suc (suc j)))) p = absurd (omega arith)
+    at : ℕ
+    at = sideWords * i
+
+    vs : List ℕ
+    vs = t .via ∷ t .walked ∷ t .high ∷ t .stages ∷ []
+
+    word : (j : ℕ) → j < sideWords → getD (puts w at 0 vs) (after at j) 0 ≡ getD vs j 0
+    word j p = let e : at + 0 + j ≡ after at j = omega (arith, after-is at j) in rw e at (puts-at w at 0 vs (omega arith) j p)
+
+pub wrote-puts : (w : List ℕ) (r : ℕ) (l : Line) → lineWords * r + lineWords ≤ length w → Wrote r l w (puts w (lineWords * r) 0 (lineOut l))
+wrote-puts w r l h = record {
+  long = puts-long w (lineWords * r) 0 (lineOut l);
+  words = λ j p. let e : lineWords * r + 0 + j ≡ lineWords * r + j = omega arith in rw e at (puts-at w (lineWords * r) 0 (lineOut l) (omega arith) j p);
+  before = λ k p. puts-before w (lineWords * r) 0 (lineOut l) k (omega arith);
+  after = λ k p. puts-after w (lineWords * r) 0 (lineOut l) k (omega arith);
+}

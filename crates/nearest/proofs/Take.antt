@@ -9,13 +9,12 @@ use lib.Dec.{ltb}
 use lib.ListN.{length, set, length-set}
 use lib.Seq.{getD-set-other}
 use Rattle.mintree.specs.Mintree.{Played, Least, Same}
-use Rattle.paper.specs.Sizes.{mostOffices, walkLimit}
-use Rattle.paper.specs.Map.{Map}
+use Rattle.paper.specs.Sizes.{mostOffices, endMost}
 use Rattle.paper.specs.Trail.{Trail}
 use Rattle.paper.specs.Listing.{Slot, at, lowOf, retired}
 use Rattle.nearest.specs.declared.tree.Lead.{Lead}
 use Rattle.nearest.specs.Working.{sideWords, treeAt, key, gone, Side, Shown, Beyond}
-use Rattle.quadtree.specs.Ready.{Sane}
+use Rattle.quadtree.specs.Sane.{Sane}
 use Rattle.nearest.specs.Going.{Waiting, Led}
 use Rattle.quadtree.specs.Walks.{trailOf}
 use Rattle.nearest.proofs.Lead.{leads-one, leads, lead-waits, lead-number, lead-low, clear-by}
@@ -37,11 +36,11 @@ side-trail a b A B e =
 pub beyond-then : {n : ℕ} {a b c : List ℕ} → Beyond n a b → Beyond n b c → Beyond n a c
 beyond-then A B = record { long = B .long ∙ A .long; rest = λ k p. B .rest k p ∙ A .rest k p }
 
-module _ {m₀ : Map} {n : ℕ} {w : List ℕ} (W : Waiting m₀ n w) (r : ℕ) (L : Least w (treeAt n) n r) where
+module _ {places₀ n : ℕ} {w : List ℕ} (W : Waiting places₀ n w) (r : ℕ) (L : Least w (treeAt n) n r) where
   pub take-some : r < gone
   take-some =
-      let S : Shown m₀ n w (W .slots) = W .shown in
-      omega (arith, L .least (W .number) (W .here), S .held (W .number) (W .here) (W .waits) .low, S .sane (W .number) (W .here) (W .waits) .low, S .few, W .here)
+      let S : Shown places₀ n w (W .slots) = W .shown in
+      omega (arith, L .least (W .number) (W .here), S .held (W .number) (W .here) (W .waits) .low, S .sane (W .number) (W .here) (W .waits) .ordered, S .sane (W .number) (W .here) (W .waits) .high, S .few, W .here)
 
   pub take-inside : r % mostOffices < n
   take-inside = omega (arith, lead-number (W .shown) r L take-some, L .inside)
@@ -49,29 +48,29 @@ module _ {m₀ : Map} {n : ℕ} {w : List ℕ} (W : Waiting m₀ n w) (r : ℕ) 
   pub take-fits : sideWords * (r % mostOffices) + sideWords ≤ length w
   take-fits = omega (arith, take-inside, W .shown .long)
 
-  pub take-high : (t : Trail) → Side w (r % mostOffices) t → t .high ≤ walkLimit
+  pub take-high : (t : Trail) → Side w (r % mostOffices) t → t .high < endMost
   take-high t X =
-      let S : Shown m₀ n w (W .slots) = W .shown in
+      let S : Shown places₀ n w (W .slots) = W .shown in
       let i : ℕ = L .at in
       let waits : at (W .slots) i .waits ≡ true = lead-waits S r L take-some in
       let here : Side w i t = subst (λ (j : ℕ). Side w j t) (lead-number S r L take-some) X in
       omega (arith, here .high, S .held i (L .inside) waits .side .high, S .sane i (L .inside) waits .high)
 
-  module _ (m : Map) (ss : List Slot) (S : Shown m n w ss) (w′ : List ℕ) (r′ : ℕ) (P : Played w′ (treeAt n) n) (L′ : Least w′ (treeAt n) n r′) where
+  module _ (places : ℕ) (ss : List Slot) (S : Shown places n w ss) (w′ : List ℕ) (r′ : ℕ) (P : Played w′ (treeAt n) n) (L′ : Least w′ (treeAt n) n r′) where
     -- the office that leads, by the tree's index
     led-at : (t : Trail) (i : ℕ) → i ≡ L .at → Side w i t → t .low ≡ lowOf ss i → at ss i .trail ≡ t
     led-at t i e X low = side-trail (at ss i .trail) t (rw e (S .held (L .at) (L .inside) (lead-waits S r L take-some) .side)) X (sym low)
 
     pub led : (l : Lead) → l .number ≡ r % mostOffices → Side w (l .number) (trailOf (l .trail)) → l .trail .low .0 ≡ r / mostOffices
-        → l .clear ≡ ltb (key (l .trail .high .0) (l .number)) r′ → Same (treeAt n) n (set w (treeAt n + (n + l .number)) gone) w′ → Led m n ss w′ l
+        → l .clear ≡ ltb (key (l .trail .high .0) (l .number)) r′ → Same (treeAt n) n (set w (treeAt n + (n + l .number)) gone) w′ → Led places n ss w′ l
     led l e X low c C =
         let here : l .number ≡ L .at = e ∙ lead-number S r L take-some in
         let inside : l .number < n = omega (arith, L .inside) in
         let same : at ss (l .number) .trail ≡ trailOf (l .trail) =
         led-at (trailOf (l .trail)) (l .number) here X (low ∙ lead-low S r L take-some ∙ ap (lowOf ss) (sym here)) in
-        let out : Shown m n w′ (retired ss (l .number)) = retire S (l .number) inside w′ C P in
-        let first : Sane m (at ss (l .number) .trail) = rw here (S .sane (L .at) (L .inside) (lead-waits S r L take-some)) in
-        let sane : Sane m (trailOf (l .trail)) = subst (Sane m) same first in
+        let out : Shown places n w′ (retired ss (l .number)) = retire S (l .number) inside w′ C P in
+        let first : Sane places (at ss (l .number) .trail) = rw here (S .sane (L .at) (L .inside) (lead-waits S r L take-some)) in
+        let sane : Sane places (trailOf (l .trail)) = subst (Sane places) same first in
         record {
           here = inside;
           leads = leads-one ss n (L .at) (leads S r L take-some) ∙ ap some (sym here);

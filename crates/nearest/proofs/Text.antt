@@ -1,18 +1,16 @@
--- The answer slice while lines are written to it, and slices that are cleared.
+-- The answer slice while lines are written to it.
 use Prim.Native.Nat.{ℕ, _+_, _-_, _*_, _/_, _%_, _≤_, _<_}
 use native.Mathlib.Omega.{arith}
 use native.Mathlib.Decide.{decLt}
 use mathlib.Core.Path.{_≡_, refl, sym, ap, _∙_}
 use mathlib.Core.List.{List, [], _∷_, _++_}
-use lib.ListN.{length, getD, drop, replicate, length-append, length-drop}
+use lib.ListN.{length, getD, drop, length-append, length-drop}
 use lib.Seq.{ext-getD, getD-drop, getD-append-add}
 use Rattle.paper.specs.Sizes.{lineWords}
 use Rattle.paper.specs.Listing.{Line, lineAt}
 use Rattle.paper.specs.Reply.{lineOut, linesOut}
-use Rattle.paper.specs.Slice.{cleared}
 use Rattle.paper.proofs.Slots.{snoc-all, snoc-length}
 use Rattle.paper.proofs.Reply.{lines-size, lines-word}
-use Rattle.nearest.specs.Working.{Beyond}
 use Rattle.nearest.specs.Going.{Wrote}
 
 -- the answer slice, a₀ at entry, once the lines ls are written
@@ -61,8 +59,3 @@ text-whole a₀ a ls k T e h = by-parts (lineWords * k) a (linesOut ls ++ drop (
   where
     size : length (linesOut ls) ≡ lineWords * k
     size = omega (arith, lines-size ls)
-
--- a slice whose first n words are cleared does not depend on what they were
-pub cleared-same : (n : ℕ) (a b : List ℕ) → Beyond n a b → n ≤ length a → cleared n b ≡ cleared n a
-cleared-same n a b B h = ap (λ (r : List ℕ). replicate n 0 ++ r) (ext-getD 0 (drop n b) (drop n a) (omega (arith, B .long, length-drop n a, length-drop n b))
-    (λ i p. getD-drop n b i 0 ∙ B .rest (n + i) (omega arith) ∙ sym (getD-drop n a i 0)))

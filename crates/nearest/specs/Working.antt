@@ -6,14 +6,14 @@ use mathlib.Core.List.{List}
 use lib.ListN.{length, getD}
 use Rattle.mintree.specs.Mintree.{Played, leaf}
 use Rattle.paper.specs.Sizes.{mostOffices, slotWords}
-use Rattle.paper.specs.Map.{Map}
 use Rattle.paper.specs.Trail.{Trail}
 use Rattle.paper.specs.Listing.{Slot, at}
-use Rattle.quadtree.specs.Ready.{Sane}
+use Rattle.paper.specs.Slice.{Untouched}
+use Rattle.quadtree.specs.Sane.{Sane}
 
 -- the words of an office beside the tree: via, walked length, high end, stages
 abbrev pub sideWords : ℕ
-sideWords = 4
+sideWords = slotWords - 2
 
 -- where the tree of n low ends begins
 abbrev pub treeAt : ℕ → ℕ
@@ -50,17 +50,17 @@ pub record Held (w : List ℕ) (n i : ℕ) (t : Trail) : Type 0 where
   pub side : Side w i t
   pub low : keyIn w n i ≡ key (t .low) i
 
--- w holds the slots ss of n offices
-pub record Shown (m : Map) (n : ℕ) (w : List ℕ) (ss : List Slot) : Type 0 where
+-- w holds the slots ss of n offices, on a map of so many places
+pub record Shown (places n : ℕ) (w : List ℕ) (ss : List Slot) : Type 0 where
   pub few : n ≤ mostOffices
   pub long : slotWords * n ≤ length w
   pub size : length ss ≡ n
   pub played : Played w (treeAt n) n
   pub held : (i : ℕ) → i < n → at ss i .waits ≡ true → Held w n i (at ss i .trail)
-  pub sane : (i : ℕ) → i < n → at ss i .waits ≡ true → Sane m (at ss i .trail)
+  pub sane : (i : ℕ) → i < n → at ss i .waits ≡ true → Sane places (at ss i .trail)
   pub left : (i : ℕ) → i < n → at ss i .waits ≡ false → keyIn w n i ≡ gone
 
 -- b is as long as a, and as a from word n on
 pub record Beyond (n : ℕ) (a b : List ℕ) : Type 0 where
   pub long : length b ≡ length a
-  pub rest : (k : ℕ) → n ≤ k → getD b k 0 ≡ getD a k 0
+  pub rest : Untouched n a b

@@ -7,14 +7,27 @@ use crate::slices::clear;
 use crate::walk::Walked;
 use crate::walk::walk;
 use paper::Counts;
+use paper::sizes::LINE_WORDS;
+use paper::sizes::MOST_PLACES;
+use paper::sizes::MOST_STAGES;
+use paper::sizes::SLOT_WORDS;
 use sheet::Laid;
 use sheet::layout;
+use sheet::list_at;
+use sheet::road_book;
 ghost use mathlib.Core.Path.{_≡_};
+ghost use Prim.Native.Nat.{_*_, _≤_, _<_};
+ghost use lib.ListN.{length};
+ghost use Rattle.paper.specs.Sizes.{lineWords, slotWords, mostOffices};
 ghost use Rattle.paper.specs.Map.{Map, Offices};
+ghost use Rattle.paper.specs.Sheet.{mapOf, officesIn};
+ghost use Rattle.paper.specs.Quest.{outward};
+ghost use Rattle.paper.specs.Listing.{listing};
 ghost use Rattle.paper.specs.Verdict.{Accepted};
-ghost use Rattle.paper.specs.Reply.{invalid as invalidOf, reply, Valid, ListsNearest, RefinesThriftily};
-ghost use Rattle.sheet.specs.Laid.{Within};
-ghost use Rattle.quadtree.specs.Ready.{Ready};
+ghost use Rattle.paper.specs.Reply.{invalid as invalidOf, replyOn, reply, Valid, ListsNearest, RefinesThriftily};
+ghost use Rattle.sheet.specs.Ground.{Mapped, Roll};
+ghost use Rattle.nearest.specs.Working.{Beyond};
+ghost use Rattle.nearest.specs.Going.{Came};
 ghost use Rattle.nearest.specs.Question.{replied};
 
 // What a question returns beside its slices: the number, 0 for a list; how many offices are listed; how many refinements were made.
@@ -36,7 +49,7 @@ fn refused(number: u32) -> Reply
 
 // 0, or the first of 7, 8 and 9 that is due, for slices of so many words.
 fn invalid(counts: Counts, q: u32, k: u32, answer: &[u64], working: &[u64]) -> u32
-    requires { ⌜ Within counts ⌝ }
+    requires { ⌜ counts .offices ≤ mostOffices ⌝ }
     ensures { λ r. ⌜ ((m : Map) (o : Offices) → m .places ≡ counts .places → o .count ≡ counts .offices → r ≡ invalidOf m o q k (now (answer .entry)) (now (working .entry))) ⌝ }
 {
     if counts.places <= q as usize {
@@ -48,33 +61,84 @@ fn invalid(counts: Counts, q: u32, k: u32, answer: &[u64], working: &[u64]) -> u
     if counts.offices < k as usize {
         return 8;
     }
-    if answer.len() < 4 * k as usize {
+    if answer.len() < LINE_WORDS * k as usize {
         return 9;
     }
-    if working.len() < 6 * counts.offices {
+    if working.len() < SLOT_WORDS * counts.offices {
         return 9;
     }
     0
 }
 
-// The question on a sheet that keeps the layout rules.
-fn ask(
-    sheet: &[u8],
+// The walk over a map that is read off the bytes: its road book, and then the listing.
+fn walk_mapped(
+    ground: &[u8],
     counts: Counts,
+    list: &[u8],
+    q: usize,
+    k: usize,
+    answer: &mut [u64],
+    working: &mut [u64],
+) -> Walked
+    requires { ⌜ Mapped (now ground) counts ⌝ }
+    requires { ⌜ (Roll (now list) (counts .offices) (counts .places)) × (q < counts .places) × (1 ≤ k) × (k ≤ counts .offices) × (lineWords * k ≤ length (now answer)) × (slotWords * counts .offices ≤ length (now working)) ⌝ }
+    ensures { λ _. ⌜ Beyond (slotWords * counts .offices) (now (working .entry)) (now (working .exit)) ⌝ }
+    ensures { λ r. ⌜ Came k (listing (mapOf (now (ground .entry))) (outward (officesIn (now (list .entry))) q) k) (now (answer .entry)) (now (answer .exit)) r ⌝ }
+{
+    let mut first = [0u32; MOST_PLACES];
+    let mut tails = [0u32; MOST_STAGES];
+    let mut heads = [0u32; MOST_STAGES];
+    let mut lengths = [0u32; MOST_STAGES];
+    road_book(
+        ground,
+        counts,
+        &mut first,
+        &mut tails,
+        &mut heads,
+        &mut lengths,
+    );
+    walk(
+        ground,
+        counts,
+        &first,
+        &heads,
+        &lengths,
+        list,
+        q,
+        k,
+        answer,
+        working,
+    )
+}
+
+// The question on a map that is read off the bytes and keeps the rules, over a list of offices.
+fn ask(
+    ground: &[u8],
+    counts: Counts,
+    list: &[u8],
     q: u32,
     k: u32,
     answer: &mut [u64],
     working: &mut [u64],
 ) -> Reply
-    requires { ⌜ Ready (now sheet) counts ⌝ }
-    ensures { λ r. ⌜ replied r (now (answer .exit)) (now (working .exit)) ≡ reply (now (sheet .entry)) q k (now (answer .entry)) (now (working .entry)) ⌝ }
+    requires { ⌜ Mapped (now ground) counts ⌝ }
+    requires { ⌜ Roll (now list) (counts .offices) (counts .places) ⌝ }
+    ensures { λ r. ⌜ replied r (now (answer .exit)) (now (working .exit)) ≡ replyOn 0 (mapOf (now (ground .entry))) (officesIn (now (list .entry))) q k (now (answer .entry)) (now (working .entry)) ⌝ }
 {
     let number = invalid(counts, q, k, answer, working);
     if number != 0 {
         return refused(number);
     }
-    let ended = walk(sheet, counts, q as usize, k as usize, answer, working);
-    clear(working, 6 * counts.offices);
+    let ended = walk_mapped(
+        ground,
+        counts,
+        list,
+        q as usize,
+        k as usize,
+        answer,
+        working,
+    );
+    clear(working, SLOT_WORDS * counts.offices);
     match ended {
         Walked::Done(total) => Reply {
             number: 0,
@@ -82,7 +146,7 @@ fn ask(
             refinements: total,
         },
         Walked::Refused(refusal) => {
-            clear(answer, 4 * k as usize);
+            clear(answer, LINE_WORDS * k as usize);
             refused(refusal)
         }
     }
@@ -97,7 +161,10 @@ pub fn question(sheet: &[u8], q: u32, k: u32, answer: &mut [u64], working: &mut 
 {
     let laid = layout(sheet);
     match laid {
-        Laid::Out(counts) => ask(sheet, counts, q, k, answer, working),
+        Laid::Out(counts) => {
+            let at = list_at(counts);
+            ask(sheet, counts, &sheet[at..], q, k, answer, working)
+        }
         Laid::Refused(number) => refused(number),
     }
 }

@@ -1,18 +1,26 @@
 // What is written to the lent slices, and read from them.
 use paper::Network;
 use paper::Trail;
+use paper::long_furlongs;
+use paper::sizes::LINE_WORDS;
+use paper::sizes::MOST_OFFICES;
+use paper::sizes::SLOT_WORDS;
 ghost use mathlib.Core.Path.{_≡_};
 ghost use Prim.Native.Nat.{_+_, _*_, _^_, _≤_, _<_};
 ghost use lib.ListN.{length, getD};
 ghost use Rattle.paper.specs.Sizes.{lineWords, mostOffices};
 ghost use Rattle.paper.specs.Slice.{cleared as clearedOf};
+ghost use Rattle.paper.specs.Quest.{Quest};
 ghost use Rattle.paper.specs.Listing.{lineOf};
 ghost use Rattle.nearest.specs.Working.{sideWords, treeAt, key as keyOf, Side, Stored};
 ghost use Rattle.quadtree.specs.Walks.{trailOf};
 ghost use Rattle.nearest.specs.Going.{Wrote};
 
 // More than any number of an office.
-pub const PACK: u64 = 4096;
+pub const PACK: u64 = MOST_OFFICES as u64;
+
+// An office's words but for two, which the tree takes.
+pub const SIDE_WORDS: usize = SLOT_WORDS - 2;
 
 // An end with the number of its office, in the order of (end, number).
 pub fn key(end: Network, i: usize) -> u64
@@ -27,7 +35,7 @@ pub fn store(working: &mut [u64], i: usize, t: Trail)
     requires { ⌜ sideWords * i + sideWords ≤ length (now working) ⌝ }
     ensures { λ _. ⌜ Stored i (trailOf t) (now (working .entry)) (now (working .exit)) ⌝ }
 {
-    let at = 4 * i;
+    let at = SIDE_WORDS * i;
     working[at] = t.via as u64;
     working[at + 1] = t.walked.0;
     working[at + 2] = t.high.0;
@@ -41,19 +49,19 @@ fn narrow(x: u64) -> usize
 }
 
 // The trail of office i, whose low end the tree has.
-pub fn trail_at(working: &[u64], i: usize, low: u64) -> Trail
+pub fn trail_at(working: &[u64], i: usize, low: Network) -> Trail
     requires { ⌜ sideWords * i + sideWords ≤ length (now working) ⌝ }
-    ensures { λ r. ⌜ (Side (now (working .entry)) i (trailOf r)) × (r .low .0 ≡ low) ⌝ }
+    ensures { λ r. ⌜ (Side (now (working .entry)) i (trailOf r)) × (r .low .0 ≡ low .0) ⌝ }
 {
-    let at = 4 * i;
+    let at = SIDE_WORDS * i;
     let via = narrow(working[at]);
-    let walked = Network(working[at + 1]);
-    let high = Network(working[at + 2]);
+    let walked = long_furlongs(working[at + 1]);
+    let high = long_furlongs(working[at + 2]);
     let stages = narrow(working[at + 3]);
     Trail {
         via,
         walked,
-        low: Network(low),
+        low,
         high,
         stages,
     }
@@ -62,9 +70,9 @@ pub fn trail_at(working: &[u64], i: usize, low: u64) -> Trail
 // The line of office i as line r of the answer.
 pub fn write_line(answer: &mut [u64], r: usize, i: usize, t: Trail)
     requires { ⌜ lineWords * r + lineWords ≤ length (now answer) ⌝ }
-    ensures { λ _. ⌜ Wrote r (lineOf i (trailOf t)) (now (answer .entry)) (now (answer .exit)) ⌝ }
+    ensures { λ _. ⌜ ((x : Quest) → Wrote r (lineOf x i (trailOf t)) (now (answer .entry)) (now (answer .exit))) ⌝ }
 {
-    let at = 4 * r;
+    let at = LINE_WORDS * r;
     answer[at] = i as u64;
     answer[at + 1] = t.low.0;
     answer[at + 2] = t.high.0;

@@ -1,19 +1,20 @@
 // The leader, by the tree of low ends in the working slice.
 use crate::slices::PACK;
+use crate::slices::SIDE_WORDS;
 use crate::slices::key;
 use crate::slices::store;
 use crate::slices::trail_at;
 use mintree::change;
 use mintree::top;
 use paper::Trail;
+use paper::long_furlongs;
 ghost use mathlib.Core.Path.{_≡_};
 ghost use mathlib.Core.List.{List};
-ghost use Prim.Native.Nat.{_*_, _<_};
+ghost use Prim.Native.Nat.{ℕ, _*_, _<_};
 ghost use Rattle.paper.specs.Sizes.{slotWords};
-ghost use Rattle.paper.specs.Map.{Map};
 ghost use Rattle.paper.specs.Listing.{Slot, retired, refined};
 ghost use Rattle.nearest.specs.Working.{Shown, Beyond};
-ghost use Rattle.quadtree.specs.Ready.{Sane};
+ghost use Rattle.quadtree.specs.Sane.{Sane};
 ghost use Rattle.quadtree.specs.Walks.{trailOf};
 ghost use Rattle.nearest.specs.Going.{SomeWaits, Led, OneOut};
 
@@ -31,12 +32,12 @@ pub struct Lead {
 pub fn take_leader(working: &mut [u64], n: usize) -> Lead
     requires { ⌜ SomeWaits n (now working) ⌝ }
     ensures { λ _. ⌜ Beyond (slotWords * n) (now (working .entry)) (now (working .exit)) ⌝ }
-    ensures { λ r. ⌜ ((m : Map) (ss : List Slot) → Shown m n (now (working .entry)) ss → Led m n ss (now (working .exit)) r) ⌝ }
+    ensures { λ r. ⌜ ((places : ℕ) (ss : List Slot) → Shown places n (now (working .entry)) ss → Led places n ss (now (working .exit)) r) ⌝ }
 {
-    let tree = 4 * n;
+    let tree = SIDE_WORDS * n;
     let least = top(working, tree, n);
     let number = (least % PACK) as usize;
-    let trail = trail_at(working, number, least / PACK);
+    let trail = trail_at(working, number, long_furlongs(least / PACK));
     change(working, tree, n, number, GONE);
     let rest = top(working, tree, n);
     let high = trail.high;
@@ -51,9 +52,9 @@ pub fn take_leader(working: &mut [u64], n: usize) -> Lead
 pub fn put_back(working: &mut [u64], n: usize, i: usize, t: Trail)
     requires { ⌜ OneOut n i (now working) (trailOf t) ⌝ }
     ensures { λ _. ⌜ Beyond (slotWords * n) (now (working .entry)) (now (working .exit)) ⌝ }
-    ensures { λ _. ⌜ ((m : Map) (ss : List Slot) → Shown m n (now (working .entry)) (retired ss i) → Sane m (trailOf t) → Shown m n (now (working .exit)) (refined ss i (trailOf t))) ⌝ }
+    ensures { λ _. ⌜ ((places : ℕ) (ss : List Slot) → Shown places n (now (working .entry)) (retired ss i) → Sane places (trailOf t) → Shown places n (now (working .exit)) (refined ss i (trailOf t))) ⌝ }
 {
     let low = t.low;
     store(working, i, t);
-    change(working, 4 * n, n, i, key(low, i));
+    change(working, SIDE_WORDS * n, n, i, key(low, i));
 }

@@ -12,7 +12,7 @@ use Rattle.paper.specs.Test.{both}
 use Rattle.paper.specs.Map.{Map}
 use Rattle.paper.specs.Cell.{cell}
 use Rattle.paper.specs.Block.{covers, blockBelow, blockOf}
-use Rattle.paper.proofs.LaidOut.{LaidOut}
+use Rattle.paper.proofs.LaidOut.{Grounded}
 use Rattle.paper.proofs.Test.{true-false, both-left, both-right}
 use Rattle.paper.proofs.Count.{below-all}
 
@@ -69,7 +69,7 @@ block-none-of m u v h = go (blockOf m u v) refl
     go none e = e
     go (some b) e = let B : BlockOf m u v (m .blocks) b = block-of m u v b e in true-false (B .covered) (h b (B .under))
 
-module _ {m : Map} (L : LaidOut m) where
+module _ {m : Map} (G : Grounded m) where
   -- of two blocks of u only one covers v
   pub cover-one : (u v b c : ℕ) → b < m .blocks → c < m .blocks → covers m u v b ≡ true → covers m u v c ≡ true → b ≡ c
   cover-one u v b c hb hc p q = go (decLt b c) (decLt c b)
@@ -81,8 +81,8 @@ module _ {m : Map} (L : LaidOut m) where
       C = covering m u v c q
 
       go : Dec (b < c) → Dec (c < b) → b ≡ c
-      go (yes l) r = absurd (omega (arith, L .parted b c l hc (B .owner ∙ sym (C .owner)), B .to, C .from))
-      go (no l) (yes r) = absurd (omega (arith, L .parted c b r hb (C .owner ∙ sym (B .owner)), C .to, B .from))
+      go (yes l) r = absurd (omega (arith, G .parted b c l hc (B .owner ∙ sym (C .owner)), B .to, C .from))
+      go (no l) (yes r) = absurd (omega (arith, G .parted c b r hb (C .owner ∙ sym (B .owner)), C .to, B .from))
       go (no l) (no r) = omega arith
 
   -- the block that is found is the one that covers

@@ -10,7 +10,7 @@ use borrow.Author.Tests.{leb-true, leb-false}
 use Rattle.paper.specs.Sizes.{gridSide, crowUnit, crowScale, crowMost}
 use Rattle.paper.specs.Map.{Map}
 use Rattle.paper.specs.Crow.{Root, crow, crowAcross, gap, rootFrom}
-use Rattle.paper.proofs.LaidOut.{LaidOut}
+use Rattle.paper.proofs.LaidOut.{Grounded}
 
 root-below : {n r r′ : ℕ} → Root n r → Root n r′ → r < r′ → ⊥
 root-below {r} {r′} R S p = omega (arith, R .next, S .square, mul-le-mul p p)
@@ -65,7 +65,7 @@ crow-most dx dy x y = go (decLt crowMost (crowAcross dx dy))
     go (yes p) = absurd (omega (arith, crow-law dx dy .square, mul-le-mul p p, mul-le-mul x x, mul-le-mul y y))
     go (no p) = omega arith
 
-module _ {m : Map} (L : LaidOut m) (u v : ℕ) (hu : u < m .places) (hv : v < m .places) where
+module _ {m : Map} (G : Grounded m) (u v : ℕ) (hu : u < m .places) (hv : v < m .places) where
   abbrev dx : ℕ
   dx = gap (m .x u) (m .x v)
 
@@ -74,7 +74,7 @@ module _ {m : Map} (L : LaidOut m) (u v : ℕ) (hu : u < m .places) (hv : v < m 
 
   pub crow-le : crow m u v ≤ crowMost
   unfolding crow
-  crow-le = crow-most dx dy (gap-le (m .x u) (m .x v) (gridSide - 1) (L .xs u hu) (L .xs v hv)) (gap-le (m .y u) (m .y v) (gridSide - 1) (L .ys u hu) (L .ys v hv))
+  crow-le = crow-most dx dy (gap-le (m .x u) (m .x v) (gridSide - 1) (G .xs u hu) (G .xs v hv)) (gap-le (m .y u) (m .y v) (gridSide - 1) (G .ys u hu) (G .ys v hv))
 
   pub crow-ge : (u ≡ v → ⊥) → crowUnit ≤ crow m u v
   unfolding crow
@@ -84,8 +84,8 @@ module _ {m : Map} (L : LaidOut m) (u v : ℕ) (hu : u < m .places) (hv : v < m 
       some : Dec (m .x u ≡ m .x v) → Dec (m .y u ≡ m .y v) → Dec (u < v) → 1 ≤ dx * dx + dy * dy
       some (no a) b l = omega (arith, mul-le-mul (gap-some _ _ a) (gap-some _ _ a))
       some (yes a) (no b) l = omega (arith, mul-le-mul (gap-some _ _ b) (gap-some _ _ b))
-      some (yes a) (yes b) (yes l) = absurd (L .apart u v l hv a b)
-      some (yes a) (yes b) (no l) = absurd (L .apart v u (omega arith) hu (sym a) (sym b))
+      some (yes a) (yes b) (yes l) = absurd (G .apart u v l hv a b)
+      some (yes a) (yes b) (no l) = absurd (G .apart v u (omega arith) hu (sym a) (sym b))
 
       go : Dec (crow m u v < crowUnit) → crowUnit ≤ crow m u v
       go (yes p) = absurd (omega (arith, crow-law dx dy .next, mul-le-mul p p, some (ℕ-discrete (m .x u) (m .x v)) (ℕ-discrete (m .y u) (m .y v)) (decLt u v)))

@@ -1,21 +1,45 @@
--- The ends that a true map gives hold the road distance.
+-- The ends that a map's blocks give are below 100,000,000,000; those of a true map hold the road distance.
 use Prim.Native.Nat.{ℕ, _*_, _^_, _≤_, _<_}
 use native.Mathlib.Omega.{arith}
 use native.Mathlib.Nat.{mul-le-mul}
 use mathlib.Core.Path.{_≡_, refl}
+use mathlib.Core.Option.{Option, some, none}
 use lib.Dec.{eqb}
 use borrow.Author.Tests.{eqb-true, eqb-false}
-use Rattle.paper.specs.Sizes.{walkLimit, crowMost}
+use Rattle.paper.specs.Sizes.{endMost, crowMost}
 use Rattle.paper.specs.Map.{Map}
 use Rattle.paper.specs.Crow.{crow}
 use Rattle.paper.specs.Block.{blockOf}
 use Rattle.paper.specs.Road.{arrived, IsD}
 use Rattle.paper.specs.Truth.{Truth, Told}
-use Rattle.paper.proofs.LaidOut.{LaidOut}
+use Rattle.paper.proofs.LaidOut.{Grounded, LaidOut}
 use Rattle.paper.specs.Trail.{Ends, between, endsBy}
-use Rattle.paper.proofs.Holds.{Holds, on-if}
-use Rattle.paper.proofs.Block.{block-of}
+use Rattle.paper.proofs.Holds.{On, Holds, on-if}
+use Rattle.paper.proofs.Block.{BlockOf, block-of}
 use Rattle.paper.proofs.Crow.{crow-le}
+
+-- of a refusal nothing is asked
+abbrev pub Any : ℕ → Type 0
+Any n = Unit {0}
+
+-- both ends are below the bound
+pub record Bounded (e : Ends) : Type 0 where
+  pub low : e .low < endMost
+  pub high : e .high < endMost
+
+module _ {m : Map} (G : Grounded m) (u v : ℕ) (hu : u < m .places) (hv : v < m .places) where
+  ends-bounded : (r : Option ℕ) → blockOf m u v ≡ r → On Any Bounded (endsBy m u v r)
+  ends-bounded none e = tt
+  ends-bounded (some b) e =
+      let B : BlockOf m u v (m .blocks) b = block-of m u v b e in
+      let h : m .high b ≤ 2 ^ 32 = omega (arith, G .ratios b (B .under)) in
+      let l : m .low b ≤ 2 ^ 32 = omega (arith, G .ordered b (B .under)) in
+      let c : crow m u v ≤ crowMost = crow-le G u v hu hv in
+      omega (arith, mul-le-mul h c, mul-le-mul l c)
+
+  pub between-bounded : On Any Bounded (between m u v)
+  unfolding between
+  between-bounded = on-if Any Bounded (eqb u v) _ _ (λ e. omega arith) (λ e. ends-bounded (blockOf m u v) refl)
 
 pub at-home : {m : Map} {v d : ℕ} → IsD m v v d → d ≡ 0
 at-home D = omega (arith, D .least 0 arrived)
@@ -25,7 +49,7 @@ pub record Right (u v d : ℕ) (e : Ends) : Type 0 where
   pub low : e .low ≤ d
   pub high : d ≤ e .high
   pub home : u ≡ v → e .low ≡ e .high
-  pub small : e .high ≤ walkLimit
+  pub small : e .high < endMost
 
 module _ {m : Map} (L : LaidOut m) (T : Truth m) where
   told-right : (u v d : ℕ) → u < m .places → v < m .places → IsD m u v d → (u ≡ v → ⊥) → Holds (Right u v d) (endsBy m u v (blockOf m u v))
@@ -33,8 +57,8 @@ module _ {m : Map} (L : LaidOut m) (T : Truth m) where
       let w : Told m u v = T .told u v hu hv ne in
       let b : ℕ = w .block in
       let c : ℕ = crow m u v in
-      let r : m .high b ≤ 2 ^ 32 = omega (arith, L .ratios b (block-of m u v b (w .covered) .under)) in
-      let top : m .high b * c ≤ 2 ^ 32 * crowMost = mul-le-mul r (crow-le L u v hu hv) in
+      let r : m .high b ≤ 2 ^ 32 = omega (arith, L .ground .ratios b (block-of m u v b (w .covered) .under)) in
+      let top : m .high b * c ≤ 2 ^ 32 * crowMost = mul-le-mul r (crow-le (L .ground) u v hu hv) in
       rw (w .covered) (record {
         low = omega (arith, w .tells .low d D);
         high = omega (arith, w .tells .high d D);

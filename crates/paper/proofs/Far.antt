@@ -67,4 +67,4 @@ module _ {m : Map} (L : LaidOut m) (v : ℕ) where
 
   -- on any sheet
   pub distance-far : {u d : ℕ} → u < m .places → IsD m u v d → d ≤ 67042305
-  distance-far hu D = omega (arith, distance-most hu D, L .places)
+  distance-far hu D = omega (arith, distance-most hu D, L .ground .places)

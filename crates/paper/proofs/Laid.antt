@@ -8,15 +8,16 @@ use mathlib.Core.List.{List}
 use lib.Dec.{leb, ltb, eqb}
 use lib.ListN.{length, getD, List·getD-eq-default}
 use borrow.Author.Tests.{leb-true, ltb-true, eqb-true, eqb-false, eq-eqb, not-true}
-use Rattle.paper.specs.Sizes.{placeWords, stageWords, blockWords, mostPlaces, mostStages, mostBlocks, mostOffices, gridSide, topLevel, mostFurlongs, mostLeaving}
+use Rattle.paper.specs.Sizes.{placeWords, stageWords, blockWords, officeWords, mostPlaces, mostStages, mostBlocks, mostOffices, gridSide, topLevel, mostFurlongs, mostLeaving}
 use Rattle.paper.specs.Test.{both, every, due, orElse}
 use Rattle.paper.specs.Order.{Before}
-use Rattle.paper.specs.Map.{Map}
+use Rattle.paper.specs.Map.{Map, Offices}
 use Rattle.paper.specs.Sheet.{word, stagesAt, blocksAt, officesAt, mapOf, officesOf}
 use Rattle.paper.specs.Stage.{leaving}
-use Rattle.paper.proofs.LaidOut.{LaidOut}
-use Rattle.paper.specs.Layout.{Bytes, wordsIn, section, endsAt, sections, sharing, placeHolds, placesHold, stageHolds, stageAscends, stagesHold, blockHolds, blockAscends, blocksHold, officesHold, layout}
-use Rattle.paper.proofs.Test.{true-false, both-true, both-left, both-right, either-by, every-true, due-true, or-left, or-right}
+use Rattle.paper.proofs.LaidOut.{Grounded, LaidOut}
+use Rattle.paper.specs.Ground.{Lawful}
+use Rattle.paper.specs.Layout.{Bytes, wordsIn, section, endsAt, sections, sharing, placeHolds, placesHold, stageHolds, stageAscends, stagesHold, blockLies, blockHolds, blockAscends, blocksLie, blocksHold, officesHold, layout}
+use Rattle.paper.proofs.Test.{true-false, both-true, both-left, both-right, either-by, every-true, every-of, due-true, or-left, or-right}
 use Rattle.paper.proofs.Leader.{before-true}
 use Rattle.paper.proofs.Stages.{chain, stage-under, stage-leaves}
 
@@ -39,7 +40,7 @@ pub record Stands (s : List ℕ) (a from to size : ℕ) : Type 0 where
   pub most : word s a ≤ to
   pub fits : a + 1 + size * word s a ≤ wordsIn s
 
-stands : (s : List ℕ) (a least most size : ℕ) → section s a least most size ≡ 0 → Stands s a least most size
+pub stands : (s : List ℕ) (a least most size : ℕ) → section s a least most size ≡ 0 → Stands s a least most size
 unfolding section
 stands s a least most size h =
     let p : Bool = ltb a (wordsIn s) in
@@ -55,23 +56,23 @@ stands s a least most size h =
       fits = leb-true _ _ (due-true f 1 (omega arith) (or-right (due (both l r) 2) (due f 1) h′));
     }
 
--- the four sections, and nothing left over
-pub record Whole (s : List ℕ) : Type 0 where
+-- each test of the sections
+pub record Parts (s : List ℕ) : Type 0 where
   pub fours : length s % 4 ≡ 0
-  pub places : Stands s 0 1 mostPlaces placeWords
-  pub stages : Stands s (stagesAt s) 0 mostStages stageWords
-  pub blocks : Stands s (blocksAt s) 0 mostBlocks blockWords
-  pub offices : Stands s (officesAt s) 0 mostOffices 1
+  pub places : section s 0 1 mostPlaces placeWords ≡ 0
+  pub stages : section s (stagesAt s) 0 mostStages stageWords ≡ 0
+  pub blocks : section s (blocksAt s) 0 mostBlocks blockWords ≡ 0
+  pub offices : section s (officesAt s) 0 mostOffices officeWords ≡ 0
   pub ends : endsAt s ≡ wordsIn s
 
-pub whole : (s : List ℕ) → sections s ≡ 0 → Whole s
+pub parts : (s : List ℕ) → sections s ≡ 0 → Parts s
 unfolding sections
-whole s h =
+parts s h =
     let f : ℕ = due (eqb (length s % 4) 0) 1 in
     let a : ℕ = section s 0 1 mostPlaces placeWords in
     let b : ℕ = section s (stagesAt s) 0 mostStages stageWords in
     let c : ℕ = section s (blocksAt s) 0 mostBlocks blockWords in
-    let d : ℕ = section s (officesAt s) 0 mostOffices 1 in
+    let d : ℕ = section s (officesAt s) 0 mostOffices officeWords in
     let e : ℕ = due (eqb (endsAt s) (wordsIn s)) 1 in
     let h₁ : orElse a (orElse b (orElse c (orElse d e))) ≡ 0 = or-right f _ h in
     let h₂ : orElse b (orElse c (orElse d e)) ≡ 0 = or-right a _ h₁ in
@@ -79,11 +80,32 @@ whole s h =
     let h₄ : orElse d e ≡ 0 = or-right c _ h₃ in
     record {
       fours = eqb-true _ _ (due-true (eqb (length s % 4) 0) 1 (omega arith) (or-left f _ h));
-      places = stands s 0 1 mostPlaces placeWords (or-left a _ h₁);
-      stages = stands s (stagesAt s) 0 mostStages stageWords (or-left b _ h₂);
-      blocks = stands s (blocksAt s) 0 mostBlocks blockWords (or-left c _ h₃);
-      offices = stands s (officesAt s) 0 mostOffices 1 (or-left d _ h₄);
+      places = or-left a _ h₁;
+      stages = or-left b _ h₂;
+      blocks = or-left c _ h₃;
+      offices = or-left d _ h₄;
       ends = eqb-true _ _ (due-true (eqb (endsAt s) (wordsIn s)) 1 (omega arith) (or-right d e h₄));
+    }
+
+-- the four sections, and nothing left over
+pub record Whole (s : List ℕ) : Type 0 where
+  pub fours : length s % 4 ≡ 0
+  pub places : Stands s 0 1 mostPlaces placeWords
+  pub stages : Stands s (stagesAt s) 0 mostStages stageWords
+  pub blocks : Stands s (blocksAt s) 0 mostBlocks blockWords
+  pub offices : Stands s (officesAt s) 0 mostOffices officeWords
+  pub ends : endsAt s ≡ wordsIn s
+
+pub whole : (s : List ℕ) → sections s ≡ 0 → Whole s
+whole s h =
+    let P : Parts s = parts s h in
+    record {
+      fours = P .fours;
+      places = stands s 0 1 mostPlaces placeWords (P .places);
+      stages = stands s (stagesAt s) 0 mostStages stageWords (P .stages);
+      blocks = stands s (blocksAt s) 0 mostBlocks blockWords (P .blocks);
+      offices = stands s (officesAt s) 0 mostOffices officeWords (P .offices);
+      ends = P .ends;
     }
 
 -- each test of a layout with nothing due
@@ -186,29 +208,25 @@ pub record BlockOk (m : Map) (i : ℕ) : Type 0 where
   pub level : m .level i ≤ topLevel
   pub code : m .code i < 4 ^ topLevel
   pub fit : m .code i % 4 ^ m .level i ≡ 0
-  pub colour : m .colour i < leaving m (m .owner i)
   pub ordered : m .low i ≤ m .high i
 
-block-one : (m : Map) (i : ℕ) → blockHolds m i ≡ true → BlockOk m i
-unfolding blockHolds
+pub block-one : (m : Map) (i : ℕ) → blockLies m i ≡ true → BlockOk m i
+unfolding blockLies
 block-one m i h =
     let o : Bool = ltb (m .owner i) (m .places) in
     let l : Bool = leb (m .level i) topLevel in
     let c : Bool = ltb (m .code i) (4 ^ topLevel) in
     let f : Bool = eqb (m .code i % 4 ^ m .level i) 0 in
-    let k : Bool = ltb (m .colour i) (leaving m (m .owner i)) in
     let r : Bool = leb (m .low i) (m .high i) in
     let ol : both o l ≡ true = both-left (both o l) _ h in
-    let rest : both (both c f) (both k r) ≡ true = both-right (both o l) _ h in
-    let cf : both c f ≡ true = both-left (both c f) _ rest in
-    let kr : both k r ≡ true = both-right (both c f) _ rest in
+    let rest : both (both c f) r ≡ true = both-right (both o l) _ h in
+    let cf : both c f ≡ true = both-left (both c f) r rest in
     record {
       owner = ltb-true _ _ (both-left o l ol);
       level = leb-true _ _ (both-right o l ol);
       code = ltb-true _ _ (both-left c f cf);
       fit = eqb-true _ _ (both-right c f cf);
-      colour = ltb-true _ _ (both-left k r kr);
-      ordered = leb-true _ _ (both-right k r kr);
+      ordered = leb-true _ _ (both-right (both c f) r rest);
     }
 
 -- block c comes after block b
@@ -220,13 +238,13 @@ pub record BlocksOk (m : Map) : Type 0 where
   pub each : (b : ℕ) → b < m .blocks → BlockOk m b
   pub later : (b c : ℕ) → b < c → c < m .blocks → Later m b c
 
-pub blocks-ok : (m : Map) → blocksHold m ≡ true → BlocksOk m
-unfolding blocksHold blockAscends
+pub blocks-ok : (m : Map) → blocksLie m ≡ true → BlocksOk m
+unfolding blocksLie blockAscends
 blocks-ok m h =
-    let e : Bool = every (m .blocks) (blockHolds m) in
+    let e : Bool = every (m .blocks) (blockLies m) in
     let a : Bool = every (m .blocks) (blockAscends m) in
     record {
-      each = λ i p. block-one m i (every-true (m .blocks) (blockHolds m) (both-left e a h) i p);
+      each = λ i p. block-one m i (every-true (m .blocks) (blockLies m) (both-left e a h) i p);
       later = chain (Later m)
           (λ i j k p q. record { grouped = omega arith; parted = λ r. omega (arith, p .parted (omega arith), q .parted (omega arith)) })
           (m .blocks) (next (both-right e a h));
@@ -240,32 +258,54 @@ blocks-ok m h =
         (λ e. let lt : m .owner i < m .owner (suc i) = ltb-true _ _ e in record { grouped = omega arith; parted = λ r. absurd (omega arith) })
         (λ e. let same : m .owner i ≡ m .owner (suc i) = eqb-true _ _ (both-left s l e) in record { grouped = omega arith; parted = λ r. leb-true _ _ (both-right s l e) })
 
--- each office stands at a place
-pub offices-stand : (s : List ℕ) → layout s ≡ 0 → (i : ℕ) → i < officesOf s .count → officesOf s .stand i < mapOf s .places
-unfolding officesHold
-offices-stand s h i p = ltb-true _ _ (every-true (officesOf s .count) (λ i. ltb (officesOf s .stand i) (mapOf s .places)) (passed s h .offices) i p)
+-- blocks that hold lie as they must, and their colours are those of stages
+module _ (m : Map) (h : blocksHold m ≡ true) where
+  block-holds : (b : ℕ) → b < m .blocks → blockHolds m b ≡ true
+  unfolding blocksHold
+  block-holds b p = every-true (m .blocks) (blockHolds m) (both-left (every (m .blocks) (blockHolds m)) (every (m .blocks) (blockAscends m)) h) b p
 
-pub offices-most : (s : List ℕ) → layout s ≡ 0 → officesOf s .count ≤ mostOffices
-unfolding officesOf
-offices-most s h = passed s h .whole .offices .most
+  pub blocks-lie : blocksLie m ≡ true
+  unfolding blocksLie blocksHold blockHolds
+  blocks-lie =
+      both-true (every (m .blocks) (blockLies m)) (every (m .blocks) (blockAscends m))
+      (every-of (m .blocks) (blockLies m) (λ b p. both-left (blockLies m b) (ltb (m .colour b) (leaving m (m .owner b))) (block-holds b p)))
+      (both-right (every (m .blocks) (blockHolds m)) (every (m .blocks) (blockAscends m)) h)
 
--- a sheet with nothing due is laid out
-pub laid-out : (s : List ℕ) → Bytes s → layout s ≡ 0 → LaidOut (mapOf s)
-unfolding mapOf
-laid-out s bytes h =
-    let m : Map = mapOf s in
-    let P : Passed s = passed s h in
-    let S : StagesOk m = stages-ok m (P .stages) in
-    let B : BlocksOk m = blocks-ok m (P .blocks) in
-    let sorted : ((i j : ℕ) → i < j → j < m .stages → m .tail i ≤ m .tail j) = λ i j p q. S .sorted i j p q .le in
+  block-colour : (b : ℕ) → b < m .blocks → m .colour b < leaving m (m .owner b)
+  unfolding blockHolds
+  block-colour b p = ltb-true _ _ (both-right (blockLies m b) (ltb (m .colour b) (leaving m (m .owner b))) (block-holds b p))
+
+-- places and blocks that keep their rules
+pub grounded : (m : Map) → 1 ≤ m .places → m .places ≤ mostPlaces → m .blocks ≤ mostBlocks → ((b : ℕ) → b < m .blocks → m .high b < 2 ^ 32)
+    → placesHold m ≡ true → blocksLie m ≡ true → Grounded m
+grounded m some places blocks ratios P h =
+    let B : BlocksOk m = blocks-ok m h in
     record {
-      some = P .whole .places .least;
-      places = P .whole .places .most;
-      stages = P .whole .stages .most;
-      blocks = P .whole .blocks .most;
-      xs = λ v p. place-ok m (P .places) v p .x;
-      ys = λ v p. place-ok m (P .places) v p .y;
-      apart = λ u v l p. place-ok m (P .places) v p .apart u l;
+      some = some;
+      places = places;
+      blocks = blocks;
+      xs = λ v p. place-ok m P v p .x;
+      ys = λ v p. place-ok m P v p .y;
+      apart = λ u v l p. place-ok m P v p .apart u l;
+      owners = λ b p. B .each b p .owner;
+      levels = λ b p. B .each b p .level;
+      codes = λ b p. B .each b p .code;
+      fits = λ b p. B .each b p .fit;
+      ordered = λ b p. B .each b p .ordered;
+      ratios = ratios;
+      grouped = λ b c l p. B .later b c l p .grouped;
+      parted = λ b c l p. B .later b c l p .parted;
+    }
+
+-- a map that keeps the rules is laid out
+pub lawful-laid : {m : Map} → Lawful m → LaidOut m
+lawful-laid {m} L =
+    let S : StagesOk m = stages-ok m (L .staged) in
+    let sorted : ((i j : ℕ) → i < j → j < m .stages → m .tail i ≤ m .tail j) = λ i j p q. S .sorted i j p q .le in
+    let hues : ((b : ℕ) → b < m .blocks → m .colour b < leaving m (m .owner b)) = block-colour m (L .blocked) in
+    record {
+      ground = grounded m (L .some) (L .places) (L .blocks) (L .ratios) (L .placed) (blocks-lie m (L .blocked));
+      stages = L .stages;
       tails = λ i p. S .each i p .tail;
       heads = λ i p. S .each i p .head;
       onward = λ i p. S .each i p .onward;
@@ -273,15 +313,36 @@ laid-out s bytes h =
       short = λ i p. S .each i p .short;
       sorted = S .sorted;
       few = S .few;
-      owners = λ b p. B .each b p .owner;
-      levels = λ b p. B .each b p .level;
-      codes = λ b p. B .each b p .code;
-      fits = λ b p. B .each b p .fit;
-      hues = λ b p. B .each b p .colour;
-      ordered = λ b p. B .each b p .ordered;
-      ratios = λ b p. word-lt s bytes (blocksAt s + 6 + blockWords * b);
-      grouped = λ b c l p. B .later b c l p .grouped;
-      parted = λ b c l p. B .later b c l p .parted;
-      colours = λ b p. stage-under m sorted (m .owner b) (m .colour b) (B .each b p .colour);
-      leaves = λ b p. stage-leaves m sorted (m .owner b) (m .colour b) (B .each b p .colour);
+      hues = hues;
+      colours = λ b p. stage-under m sorted (m .owner b) (m .colour b) (hues b p);
+      leaves = λ b p. stage-leaves m sorted (m .owner b) (m .colour b) (hues b p);
     }
+
+-- each office stands at a place
+pub offices-stand : (m : Map) (o : Offices) → officesHold m o ≡ true → (i : ℕ) → i < o .count → o .stand i < m .places
+unfolding officesHold
+offices-stand m o h i p = ltb-true _ _ (every-true (o .count) (λ i. ltb (o .stand i) (m .places)) h i p)
+
+-- the ratios of a sheet are words
+pub ratio-lt : (s : List ℕ) → Bytes s → (b : ℕ) → mapOf s .high b < 2 ^ 32
+unfolding mapOf
+ratio-lt s bytes b = word-lt s bytes (blocksAt s + 6 + blockWords * b)
+
+-- a sheet with nothing due has a map that keeps the rules
+pub lawful : (s : List ℕ) → Bytes s → layout s ≡ 0 → Lawful (mapOf s)
+unfolding mapOf
+lawful s bytes h =
+    let P : Passed s = passed s h in
+    record {
+      some = P .whole .places .least;
+      places = P .whole .places .most;
+      stages = P .whole .stages .most;
+      blocks = P .whole .blocks .most;
+      ratios = λ b p. ratio-lt s bytes b;
+      placed = P .places;
+      staged = P .stages;
+      blocked = P .blocks;
+    }
+
+pub laid-out : (s : List ℕ) → Bytes s → layout s ≡ 0 → LaidOut (mapOf s)
+laid-out s bytes h = lawful-laid (lawful s bytes h)

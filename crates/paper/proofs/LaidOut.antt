@@ -1,4 +1,4 @@
--- What a sheet with nothing due in its layout gives of its map, in plain sentences.
+-- What a layout with nothing due gives of a map, in plain sentences: of its ground, places and blocks alone, and of the whole.
 use Prim.Native.Nat.{ℕ, _+_, _%_, _^_, _≤_, _<_}
 use mathlib.Core.Path.{_≡_}
 use Rattle.paper.specs.Sizes.{mostPlaces, mostStages, mostBlocks, gridSide, topLevel, mostFurlongs, mostLeaving}
@@ -6,14 +6,25 @@ use Rattle.paper.specs.Order.{Before}
 use Rattle.paper.specs.Map.{Map}
 use Rattle.paper.specs.Stage.{leaving, stageOf}
 
-pub record LaidOut (m : Map) : Type 0 where
+pub record Grounded (m : Map) : Type 0 where
   pub some : 1 ≤ m .places
   pub places : m .places ≤ mostPlaces
-  pub stages : m .stages ≤ mostStages
   pub blocks : m .blocks ≤ mostBlocks
   pub xs : (v : ℕ) → v < m .places → m .x v < gridSide
   pub ys : (v : ℕ) → v < m .places → m .y v < gridSide
   pub apart : (u v : ℕ) → u < v → v < m .places → m .x u ≡ m .x v → m .y u ≡ m .y v → ⊥
+  pub owners : (b : ℕ) → b < m .blocks → m .owner b < m .places
+  pub levels : (b : ℕ) → b < m .blocks → m .level b ≤ topLevel
+  pub codes : (b : ℕ) → b < m .blocks → m .code b < 4 ^ topLevel
+  pub fits : (b : ℕ) → b < m .blocks → m .code b % 4 ^ m .level b ≡ 0
+  pub ordered : (b : ℕ) → b < m .blocks → m .low b ≤ m .high b
+  pub ratios : (b : ℕ) → b < m .blocks → m .high b < 2 ^ 32
+  pub grouped : (b c : ℕ) → b < c → c < m .blocks → m .owner b ≤ m .owner c
+  pub parted : (b c : ℕ) → b < c → c < m .blocks → m .owner b ≡ m .owner c → m .code b + 4 ^ m .level b ≤ m .code c
+
+pub record LaidOut (m : Map) : Type 0 where
+  pub ground : Grounded m
+  pub stages : m .stages ≤ mostStages
   pub tails : (i : ℕ) → i < m .stages → m .tail i < m .places
   pub heads : (i : ℕ) → i < m .stages → m .head i < m .places
   pub onward : (i : ℕ) → i < m .stages → m .tail i ≡ m .head i → ⊥
@@ -21,14 +32,6 @@ pub record LaidOut (m : Map) : Type 0 where
   pub short : (i : ℕ) → i < m .stages → m .furlongs i ≤ mostFurlongs
   pub sorted : (i j : ℕ) → i < j → j < m .stages → Before (m .tail i) (m .head i) (m .tail j) (m .head j)
   pub few : (u : ℕ) → u < m .places → leaving m u ≤ mostLeaving
-  pub owners : (b : ℕ) → b < m .blocks → m .owner b < m .places
-  pub levels : (b : ℕ) → b < m .blocks → m .level b ≤ topLevel
-  pub codes : (b : ℕ) → b < m .blocks → m .code b < 4 ^ topLevel
-  pub fits : (b : ℕ) → b < m .blocks → m .code b % 4 ^ m .level b ≡ 0
   pub hues : (b : ℕ) → b < m .blocks → m .colour b < leaving m (m .owner b)
-  pub ordered : (b : ℕ) → b < m .blocks → m .low b ≤ m .high b
-  pub ratios : (b : ℕ) → b < m .blocks → m .high b < 2 ^ 32
-  pub grouped : (b c : ℕ) → b < c → c < m .blocks → m .owner b ≤ m .owner c
-  pub parted : (b c : ℕ) → b < c → c < m .blocks → m .owner b ≡ m .owner c → m .code b + 4 ^ m .level b ≤ m .code c
   pub colours : (b : ℕ) → b < m .blocks → stageOf m (m .owner b) (m .colour b) < m .stages
   pub leaves : (b : ℕ) → b < m .blocks → m .tail (stageOf m (m .owner b) (m .colour b)) ≡ m .owner b

@@ -9,6 +9,7 @@ pub mod Block
 pub mod Stages
 pub mod Crow
 pub mod Walk
+pub mod Tested
 pub mod Ends
 pub mod Named
 pub mod Sound
@@ -19,6 +20,8 @@ pub mod Inv
 pub mod Moves
 pub mod Answer
 pub mod Laid
+pub mod Ground
+pub mod Cleared
 pub mod Verdict
 pub mod Table
 pub mod Checked

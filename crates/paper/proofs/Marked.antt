@@ -15,6 +15,7 @@ use Rattle.paper.specs.Road.{arrived, along, IsD}
 use Rattle.paper.specs.Layout.{Bytes, layout}
 use Rattle.paper.specs.Verdict.{verdict}
 use Rattle.paper.specs.Trail.{start, refine}
+use Rattle.paper.specs.Quest.{outward}
 use Rattle.paper.specs.Listing.{listing}
 use Rattle.paper.specs.Reply.{reply}
 use Rattle.paper.specs.Marked.{bytes, words, sheet, map, offices, line, outcome, MarkedTable}
@@ -82,7 +83,7 @@ marked = record {
 }
 
 -- two offices at place 3, asked from place 1: the second reaches its length while the first still waits at it, and the lower number is listed first
-equal-roads : outcome (listing map (record { count = 2; stand = λ i. 3 }) 1 2) ≡ served (record { total = 2; lines = line 0 15 15 1 ∷ line 1 15 15 1 ∷ [] })
+equal-roads : outcome (listing map (outward (record { count = 2; stand = λ i. 3 }) 1) 2) ≡ served (record { total = 2; lines = line 0 15 15 1 ∷ line 1 15 15 1 ∷ [] })
 unfolding listing mapOf sheet word
 equal-roads = refl
 

@@ -1,11 +1,12 @@
 -- The question on an accepted sheet, and its slices on any sheet.
 use Prim.Native.Nat.{ℕ, zero, suc, _+_, _*_, _≤_, _<_}
 use native.Mathlib.Omega.{arith}
-use mathlib.Core.Path.{_≡_, refl, ap, _∙_}
+use mathlib.Core.Path.{_≡_, refl, sym, ap, _∙_}
 use mathlib.Core.Bool.{Bool, true}
 use mathlib.Core.List.{List, [], _∷_, _++_}
 use lib.Dec.{leb, ltb}
-use lib.ListN.{length, getD, drop, replicate, length-append, length-drop, length-replicate}
+use lib.ListN.{length, getD, drop, length-append, length-drop, List·getD-append}
+use lib.Seq.{getD-drop, drop-append-seam}
 use borrow.Author.Tests.{leb-true, ltb-true}
 use Rattle.paper.specs.Sizes.{lineWords, slotWords}
 use Rattle.paper.specs.Test.{both, due, orElse}
@@ -13,15 +14,16 @@ use Rattle.paper.specs.Served.{Served, refused, served}
 use Rattle.paper.specs.Map.{Map, Offices}
 use Rattle.paper.specs.Sheet.{mapOf, officesOf}
 use Rattle.paper.proofs.LaidOut.{LaidOut}
-use Rattle.paper.specs.Layout.{Bytes, layout}
-use Rattle.paper.specs.Verdict.{Accepted}
+use Rattle.paper.specs.Quest.{Quest, outward}
+use Rattle.paper.specs.Layout.{Bytes, layout, officesHold}
+use Rattle.paper.specs.Verdict.{AcceptedOn, Accepted}
 use Rattle.paper.specs.Listing.{Line, State, lineAt, listing}
 use Rattle.paper.specs.Answer.{Asked}
-use Rattle.paper.specs.Slice.{cleared}
-use Rattle.paper.specs.Reply.{Reply, invalid, Valid, lineOut, linesOut, walkOut, replyBy, reply, endOf, ended, Answered}
+use Rattle.paper.specs.Reply.{Reply, invalid, ValidOn, Valid, lineOut, linesOut, walkOut, replyBy, replyOn, reply, endOf, endedOn, AnsweredOn, Answered}
 use Rattle.paper.proofs.Holds.{On}
 use Rattle.paper.proofs.Test.{both-left, both-right, due-true, or-left, or-right, or-zero, or-most, due-most}
-use Rattle.paper.proofs.Laid.{laid-out, offices-stand}
+use Rattle.paper.proofs.Laid.{passed, laid-out, offices-stand}
+use Rattle.paper.proofs.Cleared.{cleared-size}
 use Rattle.paper.proofs.Walk.{Walk}
 use Rattle.paper.proofs.Fair.{Ended, listing-ends}
 use Rattle.paper.proofs.Answer.{seen, answered}
@@ -68,45 +70,67 @@ invalid-most m o q k answer working =
     cd : Bool
     cd = both (leb (lineWords * k) (length answer)) (leb (slotWords * o .count) (length working))
 
-module _ (s : List ℕ) (q k : ℕ) (answer working : List ℕ) where
-  abbrev m : Map
-  m = mapOf s
+-- over a map that is laid out and the offices on it
+module _ (laid : ℕ) (m : Map) (o : Offices) (q k : ℕ) (answer working : List ℕ) where
+  abbrev x : Quest
+  x = outward o q
 
-  abbrev o : Offices
-  o = officesOf s
-
-  asked : layout s ≡ 0 → invalid m o q k answer working ≡ 0 → Asked m o q k
+  asked : officesHold m o ≡ true → ValidOn m o q k answer working → Asked m x k
   asked h g =
       let X : Allowed m o q k answer working = valid m o q k answer working g in
-      record { place = X .place; one = X .one; enough = X .enough; stands = offices-stand s h }
+      record { one = X .one; enough = X .enough; leaves = λ i p. X .place; ends = offices-stand m o h }
 
-  ended-is : (st : State) → listing m o q k ≡ served st → ended s q k ≡ st
-  unfolding ended
+  ended-is : (st : State) → listing m x k ≡ served st → endedOn m x k ≡ st
+  unfolding endedOn
   ended-is st e = ap endOf e
 
-  -- on an accepted sheet every valid question is answered
-  pub reply-answered : Bytes s → Accepted s → Valid s q k answer working → Answered s q k answer (reply s q k answer working)
-  unfolding reply
-  reply-answered bytes A g =
-      let L : LaidOut m = laid-out s bytes (A .laid) in
-      let Q : Asked m o q k = asked (A .laid) g in
+  -- on an accepted map every valid question is answered
+  pub on-answered : LaidOut m → officesHold m o ≡ true → AcceptedOn laid m → ValidOn m o q k answer working → AnsweredOn m x k answer (replyOn laid m o q k answer working)
+  unfolding replyOn
+  on-answered L stand A g =
+      let Q : Asked m x k = asked stand g in
       let (st, e, near) = answered L (A .truth) Q in
-      let none : orElse (layout s) (invalid m o q k answer working) ≡ 0 = or-zero (layout s) _ (A .laid) g in
-      let same : reply s q k answer working ≡ walkOut o k answer working (served st) = ap (replyBy m o q k answer working) none ∙ ap (walkOut o k answer working) e in
-      let end : ended s q k ≡ st = ended-is st e in
+      let none : orElse laid (invalid m o q k answer working) ≡ 0 = or-zero laid _ (A .laid) g in
+      let same : replyOn laid m o q k answer working ≡ walkOut (o .count) k answer working (served st) = ap (replyBy m x k answer working) none ∙ ap (walkOut (o .count) k answer working) e in
+      let end : endedOn m x k ≡ st = ended-is st e in
       rw same (record {
-        nearest = record { number = refl; count = refl; list = rw end refl; seen = seen L (A .truth) Q; nearest = λ x. rw end (near x .0) };
-        thrifty = record { total = rw end refl; thrifty = λ x. rw end (near x .1) };
+        nearest = record { number = refl; count = refl; list = rw end refl; seen = seen L (A .truth) Q; nearest = λ s. rw end (near s .0) };
+        thrifty = record { total = rw end refl; thrifty = λ s. rw end (near s .1) };
       })
 
-  -- on an accepted sheet the walk's refusals, 16 to 19, are never given
-  pub reply-early : Bytes s → Accepted s → reply s q k answer working .number ≤ 9
-  unfolding reply
-  reply-early bytes A = go (invalid m o q k answer working) refl
+  -- on an accepted map the walk's refusals, 16 to 19, are never given
+  pub on-early : LaidOut m → officesHold m o ≡ true → AcceptedOn laid m → replyOn laid m o q k answer working .number ≤ 9
+  unfolding replyOn
+  on-early L stand A = go (invalid m o q k answer working) refl
     where
-      go : (n : ℕ) → invalid m o q k answer working ≡ n → reply s q k answer working .number ≤ 9
-      go zero e = omega (arith, reply-answered bytes A e .nearest .number)
+      go : (n : ℕ) → invalid m o q k answer working ≡ n → replyOn laid m o q k answer working .number ≤ 9
+      go zero e = omega (arith, on-answered L stand A e .nearest .number)
       go (suc n) e = rw (A .laid, e) (omega (arith, invalid-most m o q k answer working))
+
+  -- of any map: a refused question returns its number with both counts 0
+  pub refused-counts : (replyOn laid m o q k answer working .number ≡ 0 → ⊥)
+      → (replyOn laid m o q k answer working .count ≡ 0) × (replyOn laid m o q k answer working .refinements ≡ 0)
+  unfolding replyOn
+  refused-counts = go (orElse laid (invalid m o q k answer working))
+    where
+      walk : (r : Served State) → (walkOut (o .count) k answer working r .number ≡ 0 → ⊥)
+          → (walkOut (o .count) k answer working r .count ≡ 0) × (walkOut (o .count) k answer working r .refinements ≡ 0)
+      walk (refused n) h = (refl, refl)
+      walk (served st) h = absurd (h refl)
+
+      go : (n : ℕ) → (replyBy m x k answer working n .number ≡ 0 → ⊥) → (replyBy m x k answer working n .count ≡ 0) × (replyBy m x k answer working n .refinements ≡ 0)
+      go (suc n) h = (refl, refl)
+      go zero h = walk (listing m x k) h
+
+-- the same of an ordinary sheet
+module _ (s : List ℕ) (q k : ℕ) (answer working : List ℕ) (bytes : Bytes s) (A : Accepted s) where
+  pub reply-answered : Valid s q k answer working → Answered s q k answer (reply s q k answer working)
+  unfolding reply
+  reply-answered = on-answered (layout s) (mapOf s) (officesOf s) q k answer working (laid-out s bytes (A .laid)) (passed s (A .laid) .offices) A
+
+  pub reply-early : reply s q k answer working .number ≤ 9
+  unfolding reply
+  reply-early = on-early (layout s) (mapOf s) (officesOf s) q k answer working (laid-out s bytes (A .laid)) (passed s (A .laid) .offices) A
 
 -- the list takes four words for each line, and they are the line's
 pub lines-size : (ls : List Line) → length (linesOut ls) ≡ lineWords * length ls
@@ -114,29 +138,27 @@ unfolding linesOut
 lines-size [] = refl
 lines-size (l ∷ ls) = omega (arith, length-append (lineOut l) (linesOut ls), lines-size ls)
 
+append-past : (xs ys : List ℕ) (j : ℕ) → getD (xs ++ ys) (length xs + j) 0 ≡ getD ys j 0
+append-past xs ys j = sym (getD-drop (length xs) (xs ++ ys) j 0) ∙ ap (λ (l : List ℕ). getD l j 0) (drop-append-seam xs ys)
+
 -- word j of line a
 pub lines-word : (ls : List Line) (r : List ℕ) (a j : ℕ) → a < length ls → j < lineWords → getD (linesOut ls ++ r) (lineWords * a + j) 0 ≡ getD (lineOut (lineAt ls a)) j 0
 unfolding linesOut
 lines-word [] r a j p q = absurd (omega arith)
-lines-word (l ∷ ls) r zero zero p q = refl
-lines-word (l ∷ ls) r zero (suc zero) p q = refl
-lines-word (l ∷ ls) r zero (suc (suc zero)) p q = refl
-lines-word (l ∷ ls) r zero (suc (suc (suc zero))) p q = refl
-lines-word (l ∷ ls) r zero (suc (suc (suc (suc j)))) p q = absurd (omega arith)
+lines-word (l ∷ ls) r zero j p q =
+    let e : lineWords * 0 + j ≡ j = omega arith in
+    rw e (List·getD-append (lineOut l) (linesOut ls ++ r) 0 j q)
 lines-word (l ∷ ls) r (suc a) j p q =
-    let e : lineWords * suc a + j ≡ suc (suc (suc (suc (lineWords * a + j)))) = omega arith in
-    rw e (lines-word ls r a j (omega arith) q)
+    let e : lineWords * suc a + j ≡ lineWords + (lineWords * a + j) = omega arith in
+    rw e (append-past (lineOut l) (linesOut ls ++ r) (lineWords * a + j) ∙ lines-word ls r a j (omega arith) q)
 
 -- how many words a reply leaves: as many as were lent
-cleared-size : (n : ℕ) (l : List ℕ) → n ≤ length l → length (cleared n l) ≡ length l
-cleared-size n l h = omega (arith, length-append (replicate n 0) (drop n l), length-replicate {A = ℕ} n 0, length-drop n l)
-
 pub record Kept (a w : List ℕ) (r : Reply) : Type 0 where
   pub answer : length (r .answer) ≡ length a
   pub working : length (r .working) ≡ length w
 
 pub reply-kept : (s : List ℕ) (q k : ℕ) (answer working : List ℕ) → Kept answer working (reply s q k answer working)
-unfolding reply
+unfolding reply replyOn
 reply-kept s q k answer working = go (orElse (layout s) (invalid m o q k answer working)) refl
   where
     m : Map
@@ -145,15 +167,15 @@ reply-kept s q k answer working = go (orElse (layout s) (invalid m o q k answer 
     o : Offices
     o = officesOf s
 
-    walk : Allowed m o q k answer working → (r : Served State) → On Walk (Ended m o k (λ st. Unit {0})) r → Kept answer working (walkOut o k answer working r)
+    walk : Allowed m o q k answer working → (r : Served State) → On Walk (Ended (m .places) (o .count) k (λ st. Unit {0})) r → Kept answer working (walkOut (o .count) k answer working r)
     walk X (refused n) h = record { answer = cleared-size (lineWords * k) answer (X .answers); working = cleared-size (slotWords * o .count) working (X .works) }
     walk X (served st) E = record {
       answer = omega (arith, E .count, X .answers, lines-size (st .lines), length-append (linesOut (st .lines)) (drop (lineWords * k) answer), length-drop (lineWords * k) answer);
       working = cleared-size (slotWords * o .count) working (X .works);
     }
 
-    go : (n : ℕ) → orElse (layout s) (invalid m o q k answer working) ≡ n → Kept answer working (replyBy m o q k answer working n)
+    go : (n : ℕ) → orElse (layout s) (invalid m o q k answer working) ≡ n → Kept answer working (replyBy m (outward o q) k answer working n)
     go (suc n) e = record { answer = refl; working = refl }
     go zero e =
         let X : Allowed m o q k answer working = valid m o q k answer working (or-right (layout s) _ e) in
-        walk X (listing m o q k) (listing-ends m o q k (X .enough))
+        walk X (listing m (outward o q) k) (listing-ends m (outward o q) k (X .enough))

@@ -5,7 +5,7 @@ use native.Mathlib.Nat.{le-trans}
 use mathlib.Core.Path.{_≡_}
 use lib.Dec.{leb, ltb}
 use borrow.Author.Tests.{le-leb, lt-ltb}
-use Rattle.paper.specs.Sizes.{walkLimit}
+use Rattle.paper.specs.Sizes.{endMost, walkLimit}
 use Rattle.paper.specs.Map.{Map}
 use Rattle.paper.specs.Stage.{stageOf}
 use Rattle.paper.specs.Road.{IsD}
@@ -26,7 +26,7 @@ pub record Sound (m : Map) (v d n : ℕ) (t : Trail) : Type 0 where
   pub road : t .walked + ahead ≡ d
   pub low : t .low ≤ d
   pub high : d ≤ t .high
-  pub small : t .high ≤ walkLimit
+  pub small : t .high < endMost
   pub home : t .via ≡ v → t .low ≡ t .high
   pub left : ℕ
   pub named : Named m v (t .via) left
@@ -43,7 +43,7 @@ module _ {m : Map} (L : LaidOut m) (T : Truth m) where
   unfolding start
   start-sound u v d n hu hv D r =
       on-then (λ n. ⊥) (Right u v d) (Sound m v d n) (between m u v) _ (between-right L T u v d hu hv D)
-      (λ e h. holds-tested (Sound m v d n) (fresh u e) (omega arith) (omega arith) (h .small) (record {
+      (λ e h. holds-tested (Sound m v d n) (fresh u e) (omega arith) (omega arith) (omega (arith, h .small)) (record {
         placed = hu;
         ahead = d;
         isD = D;

@@ -15,6 +15,7 @@ use Rattle.paper.specs.Reply.{invalid, reply, Answered}
 use Rattle.paper.specs.Marked.{sheet, map}
 use Rattle.paper.proofs.Test.{both-true, due-zero}
 use Rattle.paper.proofs.Laid.{laid-out}
+use Rattle.paper.proofs.Cleared.{untouched-drop}
 use Rattle.paper.proofs.Marked.{sheet-bytes, sheet-laid, roads, table, table-verdict}
 use Rattle.paper.proofs.Verdict.{verdict-truth}
 use Rattle.paper.proofs.Table.{settled, table-distances}
@@ -42,7 +43,7 @@ sheet-checked before h = rw table-verdict at (judged table sheet-laid h distance
     tabled = record {
       size = omega (arith, length-append roads (drop 16 before), length-drop 16 before);
       words = λ u v hu hv. let e : u * 4 + v ≡ 4 * u + v = omega arith in rw e (List·getD-append roads (drop 16 before) 0 (4 * u + v) (omega arith));
-      rest = refl;
+      rest = untouched-drop 16 before (roads ++ drop 16 before) refl;
     }
 
 -- a question on it is answered, whatever slices it is lent

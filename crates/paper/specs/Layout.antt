@@ -4,7 +4,7 @@ use mathlib.Core.Bool.{Bool, true, not}
 use mathlib.Core.List.{List}
 use lib.Dec.{leb, ltb, eqb}
 use lib.ListN.{length, getD}
-use Rattle.paper.specs.Sizes.{placeWords, stageWords, blockWords, mostPlaces, mostStages, mostBlocks, mostOffices, gridSide, topLevel, mostFurlongs, mostLeaving}
+use Rattle.paper.specs.Sizes.{placeWords, stageWords, blockWords, officeWords, mostPlaces, mostStages, mostBlocks, mostOffices, gridSide, topLevel, mostFurlongs, mostLeaving}
 use Rattle.paper.specs.Test.{both, either, every, due, orElse}
 use Rattle.paper.specs.Order.{before}
 use Rattle.paper.specs.Map.{Map, Offices}
@@ -39,7 +39,7 @@ sections s =
     (orElse (section s 0 1 mostPlaces placeWords)
     (orElse (section s (stagesAt s) 0 mostStages stageWords)
     (orElse (section s (blocksAt s) 0 mostBlocks blockWords)
-    (orElse (section s (officesAt s) 0 mostOffices 1)
+    (orElse (section s (officesAt s) 0 mostOffices officeWords)
     (due (eqb (endsAt s) (wordsIn s)) 1)))))
 
 -- places i and j share a cell
@@ -72,19 +72,26 @@ unfolding every stageHolds stageAscends leaving
 stagesHold m =
     both (every (m .stages) (stageHolds m)) (both (every (m .stages) (stageAscends m)) (every (m .places) (λ u. leb (leaving m u) mostLeaving)))
 
--- the place is one, the level 0 to 10, the code below 4^10 and a multiple of 4^level, the colour that of a stage, low at most high
-unfoldable pub blockHolds : Map → ℕ → Bool
-unfolding leaving
-blockHolds m i =
+-- the place is one, the level 0 to 10, the code below 4^10 and a multiple of 4^level, low at most high: all but the colour, which speaks of stages
+unfoldable pub blockLies : Map → ℕ → Bool
+blockLies m i =
     both (both (ltb (m .owner i) (m .places)) (leb (m .level i) topLevel))
-    (both (both (ltb (m .code i) (4 ^ topLevel)) (eqb (m .code i % 4 ^ m .level i) 0))
-    (both (ltb (m .colour i) (leaving m (m .owner i))) (leb (m .low i) (m .high i))))
+    (both (both (ltb (m .code i) (4 ^ topLevel)) (eqb (m .code i % 4 ^ m .level i) 0)) (leb (m .low i) (m .high i)))
+
+-- and the colour is below the number of stages that leave the place
+unfoldable pub blockHolds : Map → ℕ → Bool
+unfolding blockLies leaving
+blockHolds m i = both (blockLies m i) (ltb (m .colour i) (leaving m (m .owner i)))
 
 -- block i comes after the one before it by place, and within a place by code without overlap
 unfoldable pub blockAscends : Map → ℕ → Bool
 blockAscends m zero = true
 blockAscends m (suc i) =
     either (ltb (m .owner i) (m .owner (suc i))) (both (eqb (m .owner i) (m .owner (suc i))) (leb (m .code i + 4 ^ m .level i) (m .code (suc i))))
+
+unfoldable pub blocksLie : Map → Bool
+unfolding every blockLies blockAscends
+blocksLie m = both (every (m .blocks) (blockLies m)) (every (m .blocks) (blockAscends m))
 
 unfoldable pub blocksHold : Map → Bool
 unfolding every blockHolds blockAscends

@@ -11,11 +11,14 @@ pub mod Crow
 pub mod Stage
 pub mod Block
 pub mod Layout
+pub mod Ground
 pub mod Road
 pub mod Named
 pub mod Truth
 pub mod Verdict
 pub mod Trail
+pub mod Tested
+pub mod Quest
 pub mod Listing
 pub mod Answer
 pub mod Reply

@@ -4,6 +4,7 @@ use mathlib.Core.Path.{_≡_}
 use mathlib.Core.List.{List, [], _∷_}
 use Rattle.paper.specs.Served.{Served, served, andThen}
 use Rattle.paper.specs.Map.{Map, Offices}
+use Rattle.paper.specs.Quest.{outward}
 use Rattle.paper.specs.Sheet.{mapOf, officesOf}
 use Rattle.paper.specs.Cell.{cell}
 use Rattle.paper.specs.Crow.{crow}
@@ -70,5 +71,5 @@ pub record MarkedTable : Type 0 where
   pub p6 : IsD map 0 2 11
   pub p7 : (start map 2 (offices .stand 0) ≡ interval 2 10 30) × (start map 2 (offices .stand 1) ≡ interval 2 7 20) × (start map 2 (offices .stand 2) ≡ interval 2 5 15)
   pub p8 : andThen (start map 2 (offices .stand 1)) (refine map (offices .stand 1)) ≡ served (record { via = 1; walked = 5; low = 9; high = 20; stages = 1 })
-  pub p9 : outcome (listing map offices 2 1) ≡ served (record { total = 1; lines = line 2 5 5 1 ∷ [] })
-  pub p10 : outcome (listing map offices 2 2) ≡ served (record { total = 5; lines = line 2 5 5 1 ∷ line 0 11 11 2 ∷ [] })
+  pub p9 : outcome (listing map (outward offices 2) 1) ≡ served (record { total = 1; lines = line 2 5 5 1 ∷ [] })
+  pub p10 : outcome (listing map (outward offices 2) 2) ≡ served (record { total = 5; lines = line 2 5 5 1 ∷ line 0 11 11 2 ∷ [] })

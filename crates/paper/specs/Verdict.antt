@@ -5,7 +5,7 @@ use mathlib.Core.Bool.{Bool, true, false, not}
 use mathlib.Core.Option.{Option, some, none}
 use mathlib.Core.List.{List}
 use lib.Dec.{leb, eqb}
-use lib.ListN.{length, getD, drop}
+use lib.ListN.{length, getD}
 use Rattle.paper.specs.Sizes.{ratioUnit}
 use Rattle.paper.specs.Test.{both, every, any, due, orElse, firstOf}
 use Rattle.paper.specs.Map.{Map}
@@ -16,7 +16,7 @@ use Rattle.paper.specs.Block.{covers, blockOf}
 use Rattle.paper.specs.Road.{Road, IsD}
 use Rattle.paper.specs.Truth.{Truth}
 use Rattle.paper.specs.Layout.{layout}
-use Rattle.paper.specs.Slice.{cleared}
+use Rattle.paper.specs.Slice.{Untouched, cleared}
 
 -- v in no block of u (12); wrong colour (13); ratio untrue (14)
 abbrev pub faultBy : Map → (ℕ → ℕ → ℕ) → ℕ → ℕ → Option ℕ → ℕ
@@ -54,22 +54,29 @@ area m = m .places * m .places
 pub record Tabled (n : ℕ) (d : ℕ → ℕ → ℕ) (before after : List ℕ) : Type 0 where
   pub size : length after ≡ length before
   pub words : (u v : ℕ) → u < n → v < n → getD after (u * n + v) 0 ≡ d u v
-  pub rest : drop (n * n) after ≡ drop (n * n) before
+  pub rest : Untouched (n * n) before after
 
 -- d holds the road distances of m
 abbrev pub Distances : Map → (ℕ → ℕ → ℕ) → Type 0
 Distances m d = (u v : ℕ) → u < m .places → v < m .places → IsD m u v (d u v)
 
--- how a check ends: its number, and the slice that it was lent, at entry and at exit
-pub data Checked (s before : List ℕ) : ℕ → List ℕ → Type 0 where
-  badlyLaid : {n : ℕ} → layout s ≡ suc n → Checked s before (suc n) before
-  short : layout s ≡ 0 → length before < area (mapOf s) → Checked s before 10 before
-  cutOff : (u v : ℕ) → layout s ≡ 0 → area (mapOf s) ≤ length before → u < mapOf s .places → v < mapOf s .places → ((l : ℕ) → Road (mapOf s) v u l → ⊥)
-      → Checked s before 11 (cleared (area (mapOf s)) before)
-  judged : {after : List ℕ} (d : ℕ → ℕ → ℕ) → layout s ≡ 0 → area (mapOf s) ≤ length before → Distances (mapOf s) d → Tabled (mapOf s .places) d before after
-      → Checked s before (verdict (mapOf s) d) after
+-- how a check ends, over the number that the layout gives and the map: the check's number, and the slice that it was lent, at entry and at exit
+pub data CheckedOn (laid : ℕ) (m : Map) (before : List ℕ) : ℕ → List ℕ → Type 0 where
+  badlyLaid : {n : ℕ} → laid ≡ suc n → CheckedOn laid m before (suc n) before
+  short : laid ≡ 0 → length before < area m → CheckedOn laid m before 10 before
+  cutOff : (u v : ℕ) → laid ≡ 0 → area m ≤ length before → u < m .places → v < m .places → ((l : ℕ) → Road m v u l → ⊥)
+      → CheckedOn laid m before 11 (cleared (area m) before)
+  judged : {after : List ℕ} (d : ℕ → ℕ → ℕ) → laid ≡ 0 → area m ≤ length before → Distances m d → Tabled (m .places) d before after
+      → CheckedOn laid m before (verdict m d) after
 
--- the layout holds, and the map tells the truth
-pub record Accepted (s : List ℕ) : Type 0 where
-  pub laid : layout s ≡ 0
-  pub truth : Truth (mapOf s)
+-- the layout gives nothing, and the map tells the truth
+pub record AcceptedOn (number : ℕ) (m : Map) : Type 0 where
+  pub laid : number ≡ 0
+  pub truth : Truth m
+
+-- the same of an ordinary sheet
+abbrev pub Checked : List ℕ → List ℕ → ℕ → List ℕ → Type 0
+Checked s before = CheckedOn (layout s) (mapOf s) before
+
+abbrev pub Accepted : List ℕ → Type 0
+Accepted s = AcceptedOn (layout s) (mapOf s)

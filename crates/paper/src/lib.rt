@@ -17,13 +17,20 @@ pub fn furlongs(word: u32) -> Network
     Network(word as u64)
 }
 
+// The same of a word of 64 bits.
+pub fn long_furlongs(word: u64) -> Network
+    ensures { λ r. ⌜ r .0 ≡ word ⌝ }
+{
+    Network(word)
+}
+
 // Where a place lies: x and y are 0 to 1,023.
 pub struct Cell {
     pub x: u32,
     pub y: u32,
 }
 
-// How many records each section of a sheet has.
+// How many records there are: the places, stages and blocks of the ground, and the offices of the list.
 pub struct Counts {
     pub places: usize,
     pub stages: usize,

@@ -3,3 +3,4 @@ pub mod Words
 pub mod Search
 pub mod Steps
 pub mod Sizes
+pub mod Charts

@@ -13,7 +13,7 @@ use Rattle.paper.specs.Test.{both}
 use Rattle.paper.specs.Map.{Map}
 use Rattle.paper.specs.Cell.{cell}
 use Rattle.paper.specs.Block.{covers}
-use Rattle.paper.proofs.LaidOut.{LaidOut}
+use Rattle.paper.proofs.LaidOut.{Grounded}
 use Rattle.cells.proofs.Codes.{code-lt}
 use Rattle.paper.proofs.Test.{true-false, both-left, both-right, both-false-left, both-false-right}
 use Rattle.paper.proofs.Block.{block-is, block-none-of}
@@ -78,15 +78,15 @@ pub narrow-one : (m : Map) (k last span : ℕ) → Narrow m k last span → span
 narrow-one m k last span N h =
     record { under = omega (arith, N .some, N .under); reached = N .reached; above = λ i p q. N .above i (omega (arith, N .some)) q }
 
-module _ {m : Map} (L : LaidOut m) where
+module _ {m : Map} (G : Grounded m) where
   pub key-rises : (b c : ℕ) → b < c → c < m .blocks → keyAt m b < keyAt m c
   key-rises b c p q = go (decLt (m .owner b) (m .owner c))
     where
       go : Dec (m .owner b < m .owner c) → keyAt m b < keyAt m c
-      go (yes l) = omega (arith, L .codes b (omega arith))
+      go (yes l) = omega (arith, G .codes b (omega arith))
       go (no l) =
-          let same : m .owner b ≡ m .owner c = omega (arith, L .grouped b c p q) in
-          omega (arith, L .parted b c p q same, one-le-pow (m .level b) 4 (omega arith))
+          let same : m .owner b ≡ m .owner c = omega (arith, G .grouped b c p q) in
+          omega (arith, G .parted b c p q same, one-le-pow (m .level b) 4 (omega arith))
 
   -- the key in the middle is at most the one asked for, or above it
   pub narrow-up : (k last span : ℕ) → Narrow m k last span → 1 < span → keyAt m (last + span / 2) ≤ k → Narrow m k (last + span / 2) (span - span / 2)
@@ -121,13 +121,13 @@ module _ {m : Map} (L : LaidOut m) where
         go (yes l) q = absurd (omega (arith, Z .above b l p, W .owner, W .from))
         go (no l) (yes q) =
             let up : keyAt m r ≤ keyOf u code = Z .reached (omega arith) in
-            let same : m .owner b ≡ m .owner r = omega (arith, W .owner, L .grouped b r q (Z .under)) in
-            absurd (omega (arith, W .owner, W .to, L .parted b r q (Z .under) same))
+            let same : m .owner b ≡ m .owner r = omega (arith, W .owner, G .grouped b r q (Z .under)) in
+            absurd (omega (arith, W .owner, W .to, G .parted b r q (Z .under) same))
         go (no l) (no q) = omega arith
 
     pub cover-by : coversCode m u code r ≡ true → CoverIs m u code (By r)
     unfolding covers coversCode
-    cover-by t = record { found = (Z .under, t); block = λ v e. sym (ap coverOf (block-is L u v r (Z .under) (rw e t))) }
+    cover-by t = record { found = (Z .under, t); block = λ v e. sym (ap coverOf (block-is G u v r (Z .under) (rw e t))) }
 
     pub cover-nothing : coversCode m u code r ≡ false → CoverIs m u code Nothing
     unfolding covers coversCode
@@ -155,8 +155,8 @@ module _ {m : Map} (L : LaidOut m) where
       C = within m u code c t′
 
       same : Dec (b < c) → Dec (c < b) → b ≡ c
-      same (yes l) q = absurd (omega (arith, L .parted b c l p′ (B .owner ∙ sym (C .owner)), B .to, C .from))
-      same (no l) (yes q) = absurd (omega (arith, L .parted c b q p (C .owner ∙ sym (B .owner)), C .to, B .from))
+      same (yes l) q = absurd (omega (arith, G .parted b c l p′ (B .owner ∙ sym (C .owner)), B .to, C .from))
+      same (no l) (yes q) = absurd (omega (arith, G .parted c b q p (C .owner ∙ sym (B .owner)), C .to, B .from))
       same (no l) (no q) = omega arith
   cover-one u code (By b) Nothing (p, t) none-does = true-false t (none-does b p)
   cover-one u code Nothing (By c) none-does (p, t) = true-false t (none-does c p)

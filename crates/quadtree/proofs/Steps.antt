@@ -2,9 +2,7 @@
 use Prim.Native.Nat.{ℕ, _+_, _≤_, _<_}
 use mathlib.Core.Path.{_≡_, refl, sym, ap, _∙_}
 use mathlib.Core.Bool.{Bool, true, false}
-use mathlib.Core.List.{List}
 use mathlib.Core.Option.{Option, some, none}
-use lib.ListN.{getD}
 use lib.Dec.{leb, ltb, eqb}
 use borrow.Author.Tests.{eq-eqb, lt-ltb, le-ltb, le-leb, lt-leb, eqb-true}
 use Rattle.paper.specs.Sizes.{walkLimit}
@@ -15,13 +13,14 @@ use Rattle.paper.specs.Stage.{stageOf}
 use Rattle.paper.specs.Block.{blockOf}
 use Rattle.paper.specs.Trail.{Ends, Trail, between, endsBy, small, tested, fresh, start, onwardBy, refine}
 use Rattle.paper.specs.declared.Network.{Network}
+use Rattle.paper.specs.Ground.{SameGround}
+use Rattle.paper.proofs.Ground.{between-same}
 use Rattle.paper.proofs.Test.{both-true, both-false-left, both-false-right}
 use Rattle.quadtree.specs.declared.blocks.Cover.the-variants.{By, Nothing}
 use Rattle.quadtree.specs.declared.interval.Interval.{Interval}
 use Rattle.quadtree.specs.declared.interval.Interval.the-variants as interval
 use Rattle.quadtree.specs.declared.walk.Step.{Step}
 use Rattle.quadtree.specs.declared.walk.Step.the-variants as step
-use Rattle.quadtree.specs.Ready.{Begins}
 use Rattle.quadtree.specs.Blocks.{coverOf}
 use Rattle.quadtree.specs.Walks.{lowEnd, highEnd, furlongs, endsOf, intervalOf, trailBy, stepOf, ahead, walkedTo}
 
@@ -53,9 +52,9 @@ ends-are m b c l h x y p q e f =
 
 -- the interval between two places
 module _ (m : Map) (u v : ℕ) where
-  pub between-same : u ≡ v → interval.Ends (furlongs 0) (furlongs 0) ≡ intervalOf (between m u v)
+  pub between-home : u ≡ v → interval.Ends (furlongs 0) (furlongs 0) ≡ intervalOf (between m u v)
   unfolding between
-  between-same e = go (eqb u v) (eq-eqb u v e)
+  between-home e = go (eqb u v) (eq-eqb u v e)
     where
       go : (t : Bool) → t ≡ true → interval.Ends (furlongs 0) (furlongs 0) ≡ intervalOf (elim t [ true ↦ served (record { low = 0; high = 0 }) | false ↦ endsBy m u v (blockOf m u v) ])
       go true p = refl
@@ -131,6 +130,12 @@ module _ (m : Map) (v : ℕ) where
   unfolding walkedTo
   walked-refused t via length n e = rw (ends-refused (between m via v) n e)
 
+-- on two maps with one ground
+pub walked-same : {m g : Map} → SameGround m g → (v : ℕ) (t : Trail) (via length : ℕ) → via < m .places → v < m .places
+    → walkedTo m v t via length ≡ walkedTo g v t via length
+unfolding walkedTo
+walked-same S v t via length p q = rw (between-same S via v p q)
+
 -- one refinement
 module _ (m : Map) (v : ℕ) (t : Trail) where
   refine-as : (x : Bool) → ltb (t .stages + 1) (m .places) ≡ x → refine m v t ≡ elim x [ false ↦ refused 16 | true ↦ onwardBy m v t (blockOf m (t .via) v) ]
@@ -151,8 +156,3 @@ module _ (m : Map) (v : ℕ) (t : Trail) where
   pub refine-to : (b i via length : ℕ) (s : Step) → t .stages + 1 < m .places → By b ≡ coverOf (blockOf m (t .via) v) → i ≡ stageOf m (t .via) (m .colour b)
       → via ≡ m .head i → length ≡ m .furlongs i → s ≡ stepOf (walkedTo m v t via length) → s ≡ stepOf (refine m v t)
   refine-to b i via length s p e z h l q = rw (refine-by b i p e z, ← h, ← l) q
-
--- the stage of a colour, by the book
-pub stage-is : (m : Map) (first : List ℕ) (u k b : ℕ) → Begins m first → u < m .places → k ≡ m .colour b → getD first u 0 + k ≡ stageOf m u (m .colour b)
-unfolding stageOf
-stage-is m first u k b B p e = rw (B .each u p, e)

@@ -1,3 +1,3 @@
-pub mod Ready
+pub mod Sane
 pub mod Blocks
 pub mod Walks

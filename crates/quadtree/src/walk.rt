@@ -10,18 +10,18 @@ use paper::Counts;
 use paper::Network;
 use paper::Trail;
 use paper::furlongs;
+use paper::sizes::WALK_LIMIT;
 ghost use mathlib.Core.Path.{_≡_};
-ghost use Prim.Native.Nat.{_^_, _≤_, _<_};
-ghost use Rattle.paper.specs.Sizes.{mostPlaces, walkLimit};
+ghost use Prim.Native.Nat.{_+_, _*_, _≤_, _<_};
+ghost use lib.ListN.{length as lengthOf, getD};
+ghost use Rattle.paper.specs.Sizes.{mostPlaces, mostFurlongs, endMost};
+ghost use Rattle.paper.specs.Map.{Map};
 ghost use Rattle.paper.specs.Sheet.{mapOf};
 ghost use Rattle.paper.specs.Cell.{cell};
-ghost use Rattle.paper.specs.Stage.{stageOf};
 ghost use Rattle.paper.specs.Trail.{start as startOf, refine as refineOf, tested as testedOf};
-ghost use Rattle.quadtree.specs.Ready.{Ready, Begins, Leads, Sane};
+ghost use Rattle.sheet.specs.Ground.{Ground, Charted, Chart};
+ghost use Rattle.quadtree.specs.Sane.{Sane};
 ghost use Rattle.quadtree.specs.Walks.{trailOf, stepOf, ahead, walkedTo};
-
-// No walked length and no end is above it.
-const WALK_LIMIT: u64 = 1_099_511_627_776;
 
 // The trail that a start or a refinement comes to, or the number of the refusal.
 pub enum Step {
@@ -49,12 +49,12 @@ fn tested(t: Trail) -> Step
 }
 
 // The trail from u to v before any refinement.
-pub fn start(sheet: &[u8], counts: Counts, u: usize, v: usize) -> Step
-    requires { ⌜ Ready (now sheet) counts ⌝ }
+pub fn start(ground: &[u8], counts: Counts, u: usize, v: usize) -> Step
+    requires { ⌜ Ground (now ground) counts ⌝ }
     requires { ⌜ (u < counts .places) × (v < counts .places) ⌝ }
-    ensures { λ r. ⌜ r ≡ stepOf (startOf (mapOf (now (sheet .entry))) u v) ⌝ }
+    ensures { λ r. ⌜ r ≡ stepOf (startOf (mapOf (now (ground .entry))) u v) ⌝ }
 {
-    let first = between(sheet, counts, u, v);
+    let first = between(ground, counts, u, v);
     match first {
         Interval::Ends(low, high) => tested(Trail {
             via: u,
@@ -67,19 +67,18 @@ pub fn start(sheet: &[u8], counts: Counts, u: usize, v: usize) -> Step
     }
 }
 
-// The stage that the block b of the place u names by its colour.
-fn stage_of(sheet: &[u8], counts: Counts, first: &[u32], u: usize, b: usize) -> usize
-    requires { ⌜ Ready (now sheet) counts ⌝ }
-    requires { ⌜ (u < counts .places) × (b < counts .blocks) × (mapOf (now sheet) .owner b ≡ u) ⌝ }
-    requires { ⌜ Begins (mapOf (now sheet)) (now first) ⌝ }
-    ensures { λ r. ⌜ r ≡ stageOf (mapOf (now (sheet .entry))) u (mapOf (now (sheet .entry)) .colour b) ⌝ }
+// The stage of the place u that the block b names by its colour: so many after the first that leaves u.
+pub fn stage_of(ground: &[u8], counts: Counts, first: &[u32], u: usize, b: usize) -> usize
+    requires { ⌜ Ground (now ground) counts ⌝ }
+    requires { ⌜ (u < lengthOf (now first)) × (b < counts .blocks) ⌝ }
+    ensures { λ r. ⌜ r ≡ getD (now (first .entry)) u 0 + mapOf (now (ground .entry)) .colour b ⌝ }
 {
-    first[u] as usize + colour_of(sheet, counts, b) as usize
+    first[u] as usize + colour_of(ground, counts, b) as usize
 }
 
 // The trail after a stage of the length to the place `via`, whose interval is low to high: the overlap with the old one is kept.
 fn onward(t: Trail, via: usize, length: Network, low: Network, high: Network) -> Trail
-    requires { ⌜ (t .walked .0 ≤ walkLimit) × (t .stages < mostPlaces) × (length .0 < 2 ^ 32) × (low .0 ≤ walkLimit) × (high .0 ≤ walkLimit) ⌝ }
+    requires { ⌜ (t .walked .0 ≤ t .stages * mostFurlongs) × (t .stages < mostPlaces) × (length .0 ≤ mostFurlongs) × (low .0 < endMost) × (high .0 < endMost) ⌝ }
     ensures { λ r. ⌜ trailOf r ≡ ahead (trailOf t) via (length .0) (record { low = low .0; high = high .0 }) ⌝ }
 {
     let walked = t.walked.0 + length.0;
@@ -96,7 +95,7 @@ fn onward(t: Trail, via: usize, length: Network, low: Network, high: Network) ->
 
 // The trail towards v, whose code is given, after a stage of the length to the place `via`.
 fn walked_to(
-    sheet: &[u8],
+    ground: &[u8],
     counts: Counts,
     v: usize,
     code: u32,
@@ -104,20 +103,20 @@ fn walked_to(
     via: usize,
     length: Network,
 ) -> Step
-    requires { ⌜ Ready (now sheet) counts ⌝ }
-    requires { ⌜ (via < counts .places) × (v < counts .places) × (code ≡ cell (mapOf (now sheet)) v) × (Sane (mapOf (now sheet)) (trailOf t)) × (length .0 < 2 ^ 32) ⌝ }
-    ensures { λ r. ⌜ r ≡ stepOf (walkedTo (mapOf (now (sheet .entry))) v (trailOf t) via (length .0)) ⌝ }
+    requires { ⌜ Ground (now ground) counts ⌝ }
+    requires { ⌜ (via < counts .places) × (v < counts .places) × (code ≡ cell (mapOf (now ground)) v) × (Sane (counts .places) (trailOf t)) × (length .0 ≤ mostFurlongs) ⌝ }
+    ensures { λ r. ⌜ r ≡ stepOf (walkedTo (mapOf (now (ground .entry))) v (trailOf t) via (length .0)) ⌝ }
 {
-    let next = towards(sheet, counts, via, v, code);
+    let next = towards(ground, counts, via, v, code);
     match next {
         Interval::Ends(low, high) => tested(onward(t, via, length, low, high)),
         Interval::Refused(number) => Step::Refused(number),
     }
 }
 
-// One refinement of the trail t towards v, over a road book: where each place's stages begin, and their heads and lengths.
+// One refinement of the trail t towards v, on any map that has the ground and the book: where each place's stages begin, and their heads and lengths.
 pub fn refine(
-    sheet: &[u8],
+    ground: &[u8],
     counts: Counts,
     first: &[u32],
     heads: &[u32],
@@ -125,22 +124,22 @@ pub fn refine(
     v: usize,
     t: Trail,
 ) -> Step
-    requires { ⌜ Ready (now sheet) counts ⌝ }
-    requires { ⌜ Leads (mapOf (now sheet)) (now first) (now heads) (now lengths) ⌝ }
-    requires { ⌜ (v < counts .places) × (Sane (mapOf (now sheet)) (trailOf t)) ⌝ }
-    ensures { λ r. ⌜ r ≡ stepOf (refineOf (mapOf (now (sheet .entry))) v (trailOf t)) ⌝ }
+    requires { ⌜ Ground (now ground) counts ⌝ }
+    requires { ⌜ Chart (now ground) (now first) (now heads) (now lengths) ⌝ }
+    requires { ⌜ (v < counts .places) × (Sane (counts .places) (trailOf t)) ⌝ }
+    ensures { λ r. ⌜ ((m : Map) → Charted (now (ground .entry)) (now (first .entry)) (now (heads .entry)) (now (lengths .entry)) m → r ≡ stepOf (refineOf m v (trailOf t))) ⌝ }
 {
     if counts.places <= t.stages + 1 {
         return Step::Refused(16);
     }
     let via = t.via;
-    let code = code(sheet, v);
-    let cover = block_of(sheet, counts, via, code);
+    let code = code(ground, counts, v);
+    let cover = block_of(ground, counts, via, code);
     match cover {
         Cover::By(b) => {
-            let i = stage_of(sheet, counts, first, via, b);
+            let i = stage_of(ground, counts, first, via, b);
             walked_to(
-                sheet,
+                ground,
                 counts,
                 v,
                 code,

@@ -46,7 +46,7 @@ module _ (m : Map) (heads : List ℕ) (n : ℕ) (last₀ previous₀ last previo
 module _ {m : Map} (L : LaidOut m) (tails lengths : List ℕ) (K : Lists m tails lengths (m .places)) where
   pub map-ready : (previous : List ℕ) → length tails ≤ length lengths → length tails ≤ length previous → GoesOn (m .head) (m .stages) previous → Ready tails lengths previous (m .places)
   map-ready previous lengths-long previous-long G = record {
-    few = L .places;
+    few = L .ground .places;
     lengths-long = lengths-long;
     previous-long = previous-long;
     tail-in = λ i l. let h : i < m .stages = omega (arith, K .stages) in omega (arith, K .tail i h, L .tails i h);

@@ -3,16 +3,19 @@ use Prim.Native.Nat.{ℕ, _+_, _*_, _≤_, _<_}
 use native.Mathlib.Omega.{arith}
 use native.Mathlib.Decide.{ℕ-discrete, decLt}
 use mathlib.Core.Path.{_≡_, refl, _∙_}
+use mathlib.Core.Bool.{true}
 use mathlib.Core.List.{List}
 use lib.ListN.{length, getD, set}
 use lib.Seq.{getD-set-same, getD-set-other}
 use Rattle.paper.specs.Map.{Map}
 use Rattle.paper.specs.Stage.{stagesBelow, stageOf}
 use Rattle.paper.specs.Sheet.{word, stagesAt, mapOf}
-use Rattle.paper.specs.Layout.{layout}
-use Rattle.paper.proofs.Laid.{passed, stages-ok}
+use Rattle.paper.specs.Sizes.{stageWords}
+use Rattle.paper.specs.Slice.{Untouched}
+use Rattle.paper.specs.Layout.{stagesHold}
+use Rattle.paper.proofs.Laid.{stages-ok}
 use Rattle.paper.proofs.Stages.{Parts, begins}
-use Rattle.sheet.specs.Book.{Book, Beyond, Filled, Begins, Next, Ascending}
+use Rattle.sheet.specs.Book.{Leads, Book, Filled, Begins, Next, Ascending}
 
 pub filled-start : (f : ℕ → ℕ) (l : List ℕ) → Filled 0 f l l
 filled-start f l = record { words = λ i p. absurd (omega arith); beyond = λ k p. refl }
@@ -31,7 +34,7 @@ pub record Begun (tails : List ℕ) (n u i : ℕ) (old l : List ℕ) : Type 0 wh
   pub upto : i ≤ n
   pub low : (k : ℕ) → k < i → getD tails k 0 < u
   pub each : (v : ℕ) → v < u → Begins tails n v (getD l v 0)
-  pub beyond : Beyond u old l
+  pub beyond : Untouched u old l
 
 pub begun-start : (tails : List ℕ) (n : ℕ) (l : List ℕ) → Begun tails n 0 0 l l
 begun-start tails n l = record { upto = omega arith; low = λ k p. absurd (omega arith); each = λ v p. absurd (omega arith); beyond = λ k p. refl }
@@ -82,32 +85,34 @@ module _ (m : Map) (sorted : (i j : ℕ) → i < j → j < m .stages → m .tail
       go (no p) (yes q) = absurd (omega (arith, B .most, B .low a q, P .high a (omega arith) (omega (arith, B .most)), same a (omega (arith, B .most))))
       go (no p) (no q) = omega arith
 
--- the book of a sheet with nothing due: n stages, whose first tail stands at word a
-module _ (s : List ℕ) (laid : layout s ≡ 0) (n a : ℕ) (stages : n ≡ mapOf s .stages) (here : a ≡ stagesAt s + 1) where
+-- the book of a map that is read off the bytes: n stages, whose first tail stands at word a
+module _ (s : List ℕ) (hold : stagesHold (mapOf s) ≡ true) (n a : ℕ) (stages : n ≡ mapOf s .stages) (here : a ≡ stagesAt s + 1) where
   sorted : (i j : ℕ) → i < j → j < mapOf s .stages → mapOf s .tail i ≤ mapOf s .tail j
-  sorted i j p q = stages-ok (mapOf s) (passed s laid .stages) .sorted i j p q .le
+  sorted i j p q = stages-ok (mapOf s) hold .sorted i j p q .le
 
-  module _ (tails old : List ℕ) (T : Filled n (λ i. word s (a + 3 * i)) old tails) where
+  module _ (tails old : List ℕ) (T : Filled n (λ i. word s (a + stageWords * i)) old tails) where
     same : (i : ℕ) → i < mapOf s .stages → getD tails i 0 ≡ mapOf s .tail i
     unfolding mapOf
-    same i p = let e : stagesAt s + 1 + 3 * i ≡ a + 3 * i = omega arith in rw e (T .words i (omega arith))
+    same i p = let e : stagesAt s + 1 + stageWords * i ≡ a + stageWords * i = omega arith in rw e (T .words i (omega arith))
 
     pub tails-ascend : Ascending tails n
     tails-ascend = rw stages (ascending (mapOf s) sorted tails same)
 
     -- the first head stands at word b, the first length at word c
-    pub book-of : (b c p : ℕ) (first heads lengths heads₀ lengths₀ : List ℕ)
-        → Filled n (λ i. word s (b + 3 * i)) heads₀ heads → Filled n (λ i. word s (c + 3 * i)) lengths₀ lengths
+    pub book-of : (b c p : ℕ) (first heads lengths heads₀ lengths₀ : List ℕ) → n ≤ length tails → n ≤ length heads → n ≤ length lengths → p ≤ length first
+        → Filled n (λ i. word s (b + stageWords * i)) heads₀ heads → Filled n (λ i. word s (c + stageWords * i)) lengths₀ lengths
         → ((u : ℕ) → u < p → Begins tails n u (getD first u 0)) → b ≡ stagesAt s + 2 → c ≡ stagesAt s + 3 → p ≡ mapOf s .places → Book (mapOf s) first tails heads lengths
     unfolding mapOf
-    book-of b c p first heads lengths heads₀ lengths₀ H L B there beyond places = record {
-      begins = λ u q. begins-is (mapOf s) sorted tails same u (getD first u 0) (rw stages at (B u (omega arith)));
-      tail = same;
-      head = λ i q. rw (← there) (H .words i (omega arith));
-      furlongs = λ i q. rw (← beyond) (L .words i (omega arith));
+    book-of b c p first heads lengths heads₀ lengths₀ t h l f H L B there beyond places = record {
+      leads = record {
+        begins = record { long = omega arith; each = λ u q. begins-is (mapOf s) sorted tails same u (getD first u 0) (rw stages at (B u (omega arith))) };
+        to = record { long = omega arith; each = λ i q. rw (← there) (H .words i (omega arith)) };
+        long = record { long = omega arith; each = λ i q. rw (← beyond) (L .words i (omega arith)) };
+      };
+      from = record { long = omega arith; each = same };
     }
 
 -- the stage of u's colour c, by the book
-pub stage-at : (m : Map) (first tails heads lengths : List ℕ) → Book m first tails heads lengths → (u c : ℕ) → u < m .places → stageOf m u c ≡ getD first u 0 + c
+pub stage-at : (m : Map) (first heads lengths : List ℕ) → Leads m first heads lengths → (u c : ℕ) → u < m .places → stageOf m u c ≡ getD first u 0 + c
 unfolding stageOf
-stage-at m first tails heads lengths B u c p = rw (B .begins u p)
+stage-at m first heads lengths L u c p = rw (L .begins .each u p)

@@ -1,9 +1,10 @@
 -- `Room` has what a caller of `word` needs; the others are the mathematics behind the tests.
 pub mod Room
-pub mod Fours
 pub mod Counted
+pub mod Pairs
 pub mod Placed
 pub mod Staged
 pub mod Blocked
 pub mod Passes
 pub mod Booked
+pub mod Grounds

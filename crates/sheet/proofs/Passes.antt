@@ -1,28 +1,36 @@
 -- The layout as one test after the other.
-use Prim.Native.Nat.{ℕ, zero, suc, _≤_, _<_}
+use Prim.Native.Nat.{ℕ, zero, suc, _/_, _≤_, _<_}
 use native.Mathlib.Omega.{arith}
 use mathlib.Core.Path.{_≡_, refl, sym, ap}
 use mathlib.Core.Bool.{true, false}
 use mathlib.Core.List.{List}
 use lib.Dec.{ltb}
-use lib.ListN.{getD, replicate, length-replicate}
+use lib.ListN.{length, getD, replicate, length-replicate}
 use borrow.Author.Tests.{le-ltb}
 use Rattle.paper.specs.declared.Counts.{Counts}
+use Rattle.paper.specs.Sizes.{mostPlaces}
 use Rattle.paper.specs.Map.{Map, Offices}
-use Rattle.paper.specs.Sheet.{mapOf, officesOf}
+use Rattle.paper.specs.Test.{every}
+use Rattle.paper.specs.Sheet.{word, mapOf, officesIn, officesOf}
 use Rattle.paper.specs.Layout.{sections, placesHold, stagesHold, blocksHold, officesHold, layout}
 use Rattle.paper.proofs.Test.{every-false}
 use Rattle.sheet.specs.declared.Laid.the-variants.{Out, Refused}
 use Rattle.sheet.specs.Laid.{countsOf, laidBy, laidOf, Sectioned}
 use Rattle.sheet.specs.Records.{Zeros}
+use Rattle.sheet.proofs.Room.{out-by, refused-by}
 
 pub office-fails : (m : Map) (o : Offices) (i : ℕ) → i < o .count → m .places ≤ o .stand i → false ≡ officesHold m o
 unfolding officesHold
 office-fails m o i p h = sym (every-false (o .count) (λ i. ltb (o .stand i) (m .places)) i p (le-ltb _ _ h))
 
+-- the first i, which are all, stand at places
+pub offices-pass : (m : Map) (l : List ℕ) (places i : ℕ) → m .places ≡ places → i ≡ length l / 4 → every i (λ k. ltb (word l k) places) ≡ true → true ≡ officesHold m (officesIn l)
+unfolding officesHold officesIn
+offices-pass m l places i e n h = sym (rw (e, ← n) h)
+
 -- a fresh list counts no stage
-pub fresh : (n : ℕ) → n ≤ 1024 → Zeros n (replicate 1024 0)
-fresh n h = record { long = omega (arith, length-replicate {A = ℕ} 1024 0); zeros = λ u p. zero-at 1024 u }
+pub fresh : (n : ℕ) → n ≤ mostPlaces → Zeros n (replicate mostPlaces 0)
+fresh n h = record { long = omega (arith, length-replicate {A = ℕ} mostPlaces 0); zeros = λ u p. zero-at mostPlaces u }
   where
     zero-at : (k u : ℕ) → _≡_ {A = ℕ} (getD (replicate k 0) u 0) 0
     zero-at zero u = refl
@@ -32,19 +40,11 @@ fresh n h = record { long = omega (arith, length-replicate {A = ℕ} 1024 0); ze
 -- what the sections come to
 module _ (s : List ℕ) where
   pub sectioned-by : (c : Counts) → Out c ≡ laidBy s (sections s) → Sectioned s c
-  sectioned-by c = go (sections s) refl
-    where
-      go : (d : ℕ) → sections s ≡ d → Out c ≡ laidBy s d → Sectioned s c
-      go zero e h = record { whole = e; counts = cc }
-      go (suc d) e h = let z : _≡_ {A = ℕ} 0 1 = cc in absurd (omega arith)
+  sectioned-by c h = let (e, f) = out-by s c (sections s) h in record { whole = e; counts = f }
 
   pub refused-early : (n : ℕ) → Refused n ≡ laidBy s (sections s) → Refused n ≡ laidOf s
   unfolding laidOf layout
-  refused-early n = go (sections s) refl
-    where
-      go : (d : ℕ) → sections s ≡ d → Refused n ≡ laidBy s d → Refused n ≡ laidOf s
-      go zero e h = let z : _≡_ {A = ℕ} 0 1 = cc in absurd (omega arith)
-      go (suc d) e h = rw e h
+  refused-early n h = let (d, e, f) = refused-by s n (sections s) h in rw f (ap Refused e)
 
 -- and then the records of each section
 module _ (s : List ℕ) (whole : sections s ≡ 0) where

@@ -15,6 +15,7 @@ use Rattle.paper.specs.Test.{both, every}
 use Rattle.paper.specs.Map.{Map}
 use Rattle.paper.specs.Layout.{sharing, placeHolds, placesHold}
 use Rattle.paper.proofs.Test.{both-true, both-false-right, every-false}
+use Rattle.sheet.proofs.Pairs.{pair-eqb}
 
 pub every-same : (n : ℕ) (f g : ℕ → Bool) → ((i : ℕ) → i < n → f i ≡ g i) → every n f ≡ every n g
 unfolding every
@@ -39,22 +40,13 @@ module _ (cells : List ℕ) (cell j : ℕ) where
   unfolding every
   unmet free h e = rw (add-one j, ne-eqb (getD cells j 0) cell e) (h ∙ sym (both-so (every j (λ k. not (eqb (getD cells k 0) cell)))))
 
--- a cell as one number
-pub cell-eqb : (x y x′ y′ : ℕ) → y < gridSide → y′ < gridSide → eqb (x * gridSide + y) (x′ * gridSide + y′) ≡ both (eqb x x′) (eqb y y′)
-cell-eqb x y x′ y′ p q = elim (ℕ-discrete x x′) [
-  | yes a ↦ elim (ℕ-discrete y y′) [
-    | yes b ↦ rw (eq-eqb (x * gridSide + y) (x′ * gridSide + y′) (omega arith), eq-eqb x x′ a, eq-eqb y y′ b)
-    | no b ↦ rw (ne-eqb (x * gridSide + y) (x′ * gridSide + y′) (λ e. b (omega arith)), eq-eqb x x′ a, ne-eqb y y′ b)
-  ]
-  | no a ↦ rw (ne-eqb (x * gridSide + y) (x′ * gridSide + y′) (λ e. a (omega arith)), ne-eqb x x′ a)
-]
-
 -- the place k lies on the grid, and n is its cell as one number
 pub record Kept (m : Map) (k n : ℕ) : Type 0 where
   pub x : m .x k < gridSide
   pub y : m .y k < gridSide
   pub cell : n ≡ m .x k * gridSide + m .y k
 
+-- the first i places hold, and their cells are kept
 pub record Placed (m : Map) (i : ℕ) (cells : List ℕ) : Type 0 where
   pub each : every i (placeHolds m) ≡ true
   pub kept : (k : ℕ) → k < i → Kept m k (getD cells k 0)
@@ -63,6 +55,7 @@ pub placed-start : (m : Map) (cells : List ℕ) → Placed m 0 cells
 unfolding every
 placed-start m cells = record { each = refl; kept = λ k p. absurd (omega arith) }
 
+-- one place more
 module _ (m : Map) (i : ℕ) (more : i < m .places) where
   fails : placeHolds m i ≡ false → false ≡ placesHold m
   unfolding placesHold
@@ -76,14 +69,14 @@ module _ (m : Map) (i : ℕ) (more : i < m .places) where
   unfolding placeHolds
   off-y p h = fails (rw (lt-ltb (m .x i) gridSide p, le-ltb (m .y i) gridSide h))
 
-  module _ (cells : List ℕ) (P : Placed m i cells) (n : ℕ) (K : Kept m i n) where
+  module _ {cells : List ℕ} {n : ℕ} (P : Placed m i cells) (K : Kept m i n) where
     -- the test that the code makes is that of the paper
     holds-by : placeHolds m i ≡ every i (λ j. not (eqb (getD cells j 0) n))
     unfolding placeHolds
     holds-by = rw (lt-ltb (m .x i) gridSide (K .x), lt-ltb (m .y i) gridSide (K .y)) (every-same i _ _ same)
       where
         same : (j : ℕ) → j < i → not (sharing m j i) ≡ not (eqb (getD cells j 0) n)
-        same j q = rw (P .kept j q .cell, K .cell, cell-eqb (m .x j) (m .y j) (m .x i) (m .y i) (P .kept j q .y) (K .y))
+        same j q = rw (P .kept j q .cell, K .cell, pair-eqb gridSide (m .x j) (m .y j) (m .x i) (m .y i) (P .kept j q .y) (K .y))
 
     pub taken : every i (λ j. not (eqb (getD cells j 0) n)) ≡ false → false ≡ placesHold m
     taken e = fails (holds-by ∙ e)
@@ -97,6 +90,6 @@ module _ (m : Map) (i : ℕ) (more : i < m .places) where
           | no d ↦ rw (getD-set-other cells i k n 0 d) (P .kept k (omega arith))
         ]
 
-pub placed-end : (m : Map) (i : ℕ) (cells : List ℕ) → Placed m i cells → i ≡ m .places → true ≡ placesHold m
+pub placed-end : {m : Map} {i : ℕ} {cells : List ℕ} → Placed m i cells → i ≡ m .places → true ≡ placesHold m
 unfolding placesHold
-placed-end m i cells P e = sym (rw e at (P .each))
+placed-end P e = sym (rw e at (P .each))

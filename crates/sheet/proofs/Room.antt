@@ -1,88 +1,90 @@
--- Where the records of a sheet stand once its sections are whole: what `word` asks of whoever reads them.
-use Prim.Native.Nat.{ℕ, zero, suc, _+_, _*_, _≤_, _<_}
+-- Where the records stand once the sections are whole: what `word` asks of whoever reads them.
+use Prim.Native.Nat.{ℕ, zero, suc, _+_, _*_, _≤_}
 use native.Mathlib.Omega.{arith}
 use mathlib.Core.Path.{_≡_, refl, sym}
 use mathlib.Core.List.{List}
 use lib.ListN.{length}
 use Rattle.paper.specs.declared.Counts.{Counts}
-use Rattle.paper.specs.Sizes.{placeWords, stageWords, blockWords}
+use Rattle.paper.specs.Sizes.{placeWords, stageWords, blockWords, mostPlaces, mostStages, mostBlocks, mostOffices}
 use Rattle.paper.specs.Sheet.{word, stagesAt, blocksAt, officesAt, mapOf, officesOf}
-use Rattle.paper.specs.Layout.{endsAt, sections, layout}
-use Rattle.paper.proofs.Test.{or-left}
-use Rattle.paper.proofs.Laid.{Whole, whole}
+use Rattle.paper.specs.Layout.{endsAt, section, layout}
+use Rattle.paper.proofs.Laid.{Stands, stands, Parts, parts, Whole, whole}
 use Rattle.sheet.specs.declared.Laid.the-variants.{Out, Refused}
 use Rattle.sheet.specs.Laid.{countsOf, laidBy, laidOf, Sectioned, Within, stagesFrom, blocksFrom, officesFrom}
+use Rattle.sheet.specs.Ground.{Parted}
 
--- the counts are those of the map and the list of offices, each within its most, and say where each section stands and that the sheet ends after the last
-pub record Room (s : List ℕ) (c : Counts) : Type 0 where
+-- the counts are those of the map, each within its most, and say where each section stands; the bytes go on as far as the blocks
+pub record Room (g : List ℕ) (c : Counts) : Type 0 where
   pub within : Within c
   pub some : 1 ≤ c .places
-  pub places : c .places ≡ mapOf s .places
-  pub stages : c .stages ≡ mapOf s .stages
-  pub blocks : c .blocks ≡ mapOf s .blocks
-  pub offices : c .offices ≡ officesOf s .count
-  pub stages-at : stagesFrom c ≡ stagesAt s
-  pub blocks-at : blocksFrom c ≡ blocksAt s
-  pub offices-at : officesFrom c ≡ officesAt s
-  pub ends : 4 * (officesFrom c + 1 + c .offices) ≡ length s
+  pub places : c .places ≡ mapOf g .places
+  pub stages : c .stages ≡ mapOf g .stages
+  pub blocks : c .blocks ≡ mapOf g .blocks
+  pub stages-at : stagesFrom c ≡ stagesAt g
+  pub blocks-at : blocksFrom c ≡ blocksAt g
+  pub offices-at : officesFrom c ≡ officesAt g
+  pub ends : 4 * officesFrom c ≤ length g
 
-room-of : (s : List ℕ) → Whole s → Room s (countsOf s)
-unfolding countsOf mapOf officesOf stagesAt blocksAt officesAt endsAt
-room-of s W = record {
-  within = record { places = W .places .most; stages = W .stages .most; blocks = W .blocks .most; offices = W .offices .most };
-  some = W .places .least;
-  places = refl;
-  stages = refl;
-  blocks = refl;
-  offices = refl;
-  stages-at = refl;
-  blocks-at = refl;
-  offices-at = refl;
-  ends = omega (arith, W .ends, W .fours);
-}
+pub room : (g : List ℕ) (c : Counts) → Parted g c → Room g c
+unfolding mapOf stagesAt blocksAt officesAt
+room g c P =
+    let A : Stands g 0 1 mostPlaces placeWords = stands g 0 1 mostPlaces placeWords (P .placed) in
+    let B : Stands g (stagesAt g) 0 mostStages stageWords = stands g (stagesAt g) 0 mostStages stageWords (P .staged) in
+    let D : Stands g (blocksAt g) 0 mostBlocks blockWords = stands g (blocksAt g) 0 mostBlocks blockWords (P .blocked) in
+    record {
+      within = record { places = omega (arith, P, A); stages = omega (arith, P, B); blocks = omega (arith, P, D) };
+      some = omega (arith, P, A);
+      places = P .places;
+      stages = P .stages;
+      blocks = P .blocks;
+      stages-at = omega (arith, P);
+      blocks-at = omega (arith, P);
+      offices-at = omega (arith, P);
+      ends = omega (arith, P, D);
+    }
 
-pub room : (s : List ℕ) (c : Counts) → Sectioned s c → Room s c
-room s c S = rw (S .counts) (room-of s (whole s (S .whole)))
+-- all four sections of a sheet
+module _ (s : List ℕ) (c : Counts) (S : Sectioned s c) where
+  pub parted : Parted s c
+  unfolding countsOf mapOf
+  parted =
+      let P : Parts s = parts s (S .whole) in
+      rw (S .counts) (record { placed = P .places; staged = P .stages; blocked = P .blocks; places = refl; stages = refl; blocks = refl })
 
--- a sheet with nothing due has whole sections
-pub sectioned : (s : List ℕ) (c : Counts) → layout s ≡ 0 → c ≡ countsOf s → Sectioned s c
-unfolding layout
-sectioned s c h e = record { whole = or-left (sections s) _ h; counts = e }
+  -- the offices are as many as counted, and end with the sheet
+  pub offices-counted : c .offices ≡ officesOf s .count
+  unfolding countsOf officesOf
+  offices-counted = rw (S .counts) refl
 
--- what the answer of `layout` tells
+  pub offices-few : c .offices ≤ mostOffices
+  unfolding countsOf
+  offices-few = rw (S .counts) (whole s (S .whole) .offices .most)
+
+  pub offices-end : 4 * (officesFrom c + 1 + c .offices) ≡ length s
+  unfolding countsOf endsAt
+  offices-end =
+      let W : Whole s = whole s (S .whole) in
+      let R : Room s c = room s c parted in
+      let e : c .offices ≡ word s (officesAt s) = rw (S .counts) refl in
+      omega (arith, W .ends, W .fours, R .offices-at)
+
+-- what the counts tell, and what the number of a refusal tells
 module _ (s : List ℕ) where
+  pub out-by : (c : Counts) (d : ℕ) → Out c ≡ laidBy s d → (d ≡ 0) × (c ≡ countsOf s)
+  out-by c zero h = (refl, cc)
+  out-by c (suc d) h = let z : _≡_ {A = ℕ} 0 1 = cc in absurd (omega arith)
+
+  pub refused-by : (n d : ℕ) → Refused n ≡ laidBy s d → (j : ℕ) × (n ≡ suc j) × (d ≡ suc j)
+  refused-by n zero h = let z : _≡_ {A = ℕ} 0 1 = cc in absurd (omega arith)
+  refused-by n (suc d) h = (d, cc, refl)
+
   pub laid-counts : (c : Counts) → Out c ≡ laidOf s → (layout s ≡ 0) × (c ≡ countsOf s)
   unfolding laidOf
-  laid-counts c = go (layout s) refl
-    where
-      go : (d : ℕ) → layout s ≡ d → Out c ≡ laidBy s d → (layout s ≡ 0) × (c ≡ countsOf s)
-      go zero e h = (e, cc)
-      go (suc d) e h = let z : _≡_ {A = ℕ} 0 1 = cc in absurd (omega arith)
+  laid-counts c = out-by c (layout s)
 
   pub laid-number : (n : ℕ) → Refused n ≡ laidOf s → (d : ℕ) × (n ≡ suc d) × (layout s ≡ suc d)
   unfolding laidOf
-  laid-number n = go (layout s) refl
-    where
-      go : (d : ℕ) → layout s ≡ d → Refused n ≡ laidBy s d → (d : ℕ) × (n ≡ suc d) × (layout s ≡ suc d)
-      go zero e h = let z : _≡_ {A = ℕ} 0 1 = cc in absurd (omega arith)
-      go (suc d) e h = (d, cc, e)
-
--- every word of a record is there
-module _ (s : List ℕ) (laid : layout s ≡ 0) where
-  R : Room s (countsOf s)
-  R = room s (countsOf s) (sectioned s (countsOf s) laid refl)
-
-  pub place-in : (i k : ℕ) → i < mapOf s .places → k < placeWords → 4 * (1 + placeWords * i + k) + 4 ≤ length s
-  place-in i k p q = omega (arith, R)
-
-  pub stage-in : (i k : ℕ) → i < mapOf s .stages → k < stageWords → 4 * (stagesAt s + 1 + stageWords * i + k) + 4 ≤ length s
-  stage-in i k p q = omega (arith, R)
-
-  pub block-in : (i k : ℕ) → i < mapOf s .blocks → k < blockWords → 4 * (blocksAt s + 1 + blockWords * i + k) + 4 ≤ length s
-  block-in i k p q = omega (arith, R)
-
-  pub office-in : (i : ℕ) → i < officesOf s .count → 4 * (officesAt s + 1 + i) + 4 ≤ length s
-  office-in i p = omega (arith, R)
+  laid-number n = refused-by n (layout s)
 
 -- a word that was read, by another name of its place
 pub word-is : (s : List ℕ) (r i j : ℕ) → r ≡ word s j → i ≡ j → word s i ≡ r

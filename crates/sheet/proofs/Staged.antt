@@ -1,7 +1,7 @@
 -- The stages up to one of them: each holds, they ascend, and a list has how many leave each place.
 use Prim.Native.Nat.{ℕ, zero, suc, _+_, _-_, _*_, _≤_, _<_}
 use native.Mathlib.Omega.{arith}
-use native.Mathlib.Decide.{ℕ-discrete, decLt}
+use native.Mathlib.Decide.{ℕ-discrete}
 use native.Mathlib.Numerals.{add-one}
 use mathlib.Core.Path.{_≡_, refl, sym, _∙_}
 use mathlib.Core.Bool.{Bool, true, false}
@@ -9,16 +9,17 @@ use mathlib.Core.List.{List}
 use lib.Dec.{leb, ltb, eqb}
 use lib.ListN.{length, getD, set, length-set}
 use lib.Seq.{getD-set-same, getD-set-other}
-use borrow.Author.Tests.{lt-ltb, le-ltb, le-leb, lt-leb, eq-eqb, ne-eqb, ltb-true, ltb-false}
+use borrow.Author.Tests.{le-leb, lt-leb, eq-eqb, ne-eqb, ltb-true}
 use Rattle.paper.specs.Sizes.{mostPlaces, mostLeaving}
 use Rattle.paper.specs.Sum.{sum, one}
-use Rattle.paper.specs.Test.{both, every}
-use Rattle.paper.specs.Order.{before}
+use Rattle.paper.specs.Test.{both, either, every}
 use Rattle.paper.specs.Map.{Map}
 use Rattle.paper.specs.Stage.{leaving}
+use Rattle.paper.specs.Slice.{Untouched}
 use Rattle.paper.specs.Layout.{stageHolds, stageAscends, stagesHold}
 use Rattle.paper.proofs.Test.{both-true, both-left, both-right, both-false-right, every-true, every-of, every-false}
 use Rattle.sheet.specs.Records.{Zeros, Leaving}
+use Rattle.sheet.proofs.Pairs.{pair-leb}
 use Rattle.sheet.proofs.Placed.{every-more}
 
 -- how many of the first n stages leave u
@@ -55,120 +56,114 @@ abbrev pub stageFrom : Map → ℕ → ℕ
 stageFrom m zero = 0
 stageFrom m (suc i) = stageKey m i + 1
 
-before-key : (a i b j : ℕ) → i < mostPlaces → j < mostPlaces → before a i b j ≡ leb (a * mostPlaces + i + 1) (b * mostPlaces + j)
-before-key a i b j p q = go (ltb a b) refl
-  where
-    tie : b ≤ a → Dec (a ≡ b) → both (eqb a b) (ltb i j) ≡ leb (a * mostPlaces + i + 1) (b * mostPlaces + j)
-    tie l (yes e) = elim (decLt i j) [
-      | yes r ↦ rw (eq-eqb a b e, lt-ltb i j r, le-leb (a * mostPlaces + i + 1) (b * mostPlaces + j) (omega arith))
-      | no r ↦ rw (eq-eqb a b e, le-ltb i j (omega arith), lt-leb (a * mostPlaces + i + 1) (b * mostPlaces + j) (omega arith))
-    ]
-    tie l (no e) = let k : b < a = omega arith in rw (ne-eqb a b e, lt-leb (a * mostPlaces + i + 1) (b * mostPlaces + j) (omega arith))
+before-either : (t u : Bool) → (elim t [ true ↦ true | false ↦ u ]) ≡ either t u
+before-either true u = refl
+before-either false u = refl
 
-    go : (t : Bool) → ltb a b ≡ t → (elim t [ true ↦ true | false ↦ both (eqb a b) (ltb i j) ]) ≡ leb (a * mostPlaces + i + 1) (b * mostPlaces + j)
-    go true e = let l : a < b = ltb-true a b e in sym (le-leb (a * mostPlaces + i + 1) (b * mostPlaces + j) (omega arith))
-    go false e = tie (ltb-false a b e) (ℕ-discrete a b)
-
-pub record Ends (m : Map) (i : ℕ) : Type 0 where
+-- the stage i holds: its ends are places, which are not more than the most
+pub record Held (m : Map) (i : ℕ) : Type 0 where
+  pub few : m .places ≤ mostPlaces
+  pub more : i < m .stages
+  pub holds : stageHolds m i ≡ true
   pub tail : m .tail i < m .places
   pub head : m .head i < m .places
 
-pub ends-of : (m : Map) (i : ℕ) → stageHolds m i ≡ true → Ends m i
+pub held : (m : Map) (i : ℕ) → m .places ≤ mostPlaces → i < m .stages → stageHolds m i ≡ true → Held m i
 unfolding stageHolds
-ends-of m i h =
+held m i few more h =
     let t : Bool = ltb (m .tail i) (m .places) in
     let g : Bool = ltb (m .head i) (m .places) in
     let tg : both t g ≡ true = both-left (both t g) _ h in
-    record { tail = ltb-true _ _ (both-left t g tg); head = ltb-true _ _ (both-right t g tg) }
+    record { few = few; more = more; holds = h; tail = ltb-true _ _ (both-left t g tg); head = ltb-true _ _ (both-right t g tg) }
 
-pub record Staged (m : Map) (i from : ℕ) (l : List ℕ) : Type 0 where
+pub stage-fails : (m : Map) (i : ℕ) → i < m .stages → stageHolds m i ≡ false → false ≡ stagesHold m
+unfolding stagesHold
+stage-fails m i more e = rw (every-false (m .stages) (stageHolds m) i more e)
+
+-- the first i stages hold, ascend and are counted; the words beyond the places are as they were
+pub record Staged (m : Map) (i from : ℕ) (old l : List ℕ) : Type 0 where
   pub each : every i (stageHolds m) ≡ true
   pub sorted : every i (stageAscends m) ≡ true
   pub next : from ≡ stageFrom m i
   pub long : m .places ≤ length l
   pub counted : (u : ℕ) → u < m .places → getD l u 0 ≡ leavingBelow m i u
   pub few : (u : ℕ) → u < m .places → getD l u 0 ≤ mostLeaving
+  pub beyond : Untouched (m .places) old l
 
-pub staged-start : (m : Map) (l : List ℕ) → Zeros (m .places) l → Staged m 0 0 l
+pub staged-start : (m : Map) (n : ℕ) (l : List ℕ) → n ≡ m .places → Zeros n l → Staged m 0 0 l l
 unfolding every leavingBelow sum
-staged-start m l Z = record {
+staged-start m n l e Z = record {
   each = refl;
   sorted = refl;
   next = refl;
-  long = Z .long;
-  counted = Z .zeros;
-  few = λ u p. omega (arith, Z .zeros u p);
+  long = omega (arith, Z .long);
+  counted = λ u p. Z .zeros u (omega arith);
+  few = λ u p. omega (arith, Z .zeros u (omega arith));
+  beyond = λ k p. refl;
 }
 
-module _ (m : Map) (few : m .places ≤ mostPlaces) (i : ℕ) (more : i < m .stages) where
-  pub stage-fails : stageHolds m i ≡ false → false ≡ stagesHold m
-  unfolding stagesHold
-  stage-fails e = rw (every-false (m .stages) (stageHolds m) i more e)
+module _ {m : Map} {i from : ℕ} {old l : List ℕ} (S : Staged m i from old l) (H : Held m i) where
+  -- the test that the code makes is that of the paper
+  ascends-by : stageAscends m i ≡ leb from (stageKey m i)
+  unfolding stageAscends
+  ascends-by = rw (S .next) (go i (S .each) H)
+    where
+      go : (i : ℕ) → every i (stageHolds m) ≡ true → Held m i → stageAscends m i ≡ leb (stageFrom m i) (stageKey m i)
+      go zero h H = sym (le-leb 0 (stageKey m 0) (omega arith))
+      go (suc j) h H =
+          let J : Held m j = held m j (H .few) (omega (arith, H .more)) (every-true (suc j) (stageHolds m) h j (omega arith)) in
+          let e : m .tail j * mostPlaces + suc (m .head j) ≡ stageKey m j + 1 = omega arith in
+          before-either (ltb (m .tail j) (m .tail (suc j))) _ ∙ rw e at (pair-leb mostPlaces (m .tail j) (suc (m .head j)) (m .tail (suc j)) (m .head (suc j)) (omega arith) (omega arith))
 
-  order-fails : stageAscends m i ≡ false → false ≡ stagesHold m
+  pub out-of-order : stageKey m i < from → false ≡ stagesHold m
   unfolding stagesHold
-  order-fails e = rw (every-false (m .stages) (stageAscends m) i more e) (sym (both-false-right (every (m .stages) (stageHolds m)) false refl))
+  out-of-order h =
+      rw (every-false (m .stages) (stageAscends m) i (H .more) (ascends-by ∙ lt-leb from (stageKey m i) h)) (sym (both-false-right (every (m .stages) (stageHolds m)) false refl))
 
-  module _ (from : ℕ) (l : List ℕ) (S : Staged m i from l) (E : Ends m i) where
-    -- the test that the code makes is that of the paper
-    ascends-by : stageAscends m i ≡ leb from (stageKey m i)
-    unfolding stageAscends
-    ascends-by = rw (S .next) (go i (S .each) E)
+  -- t is the tail, by the name that the code has for it
+  module _ (t : ℕ) (is : t ≡ m .tail i) where
+    inside : t < m .places
+    inside = omega (arith, H .tail)
+
+    pub ninth : mostLeaving ≤ getD l t 0 → false ≡ stagesHold m
+    unfolding stagesHold
+    ninth h =
+        let nine : mostLeaving < leaving m t = omega (arith, S .counted t inside, more-leave m i t (sym is), leave-most m t (i + 1) (omega (arith, H .more))) in
+        let e : Bool = every (m .stages) (stageHolds m) in
+        let a : Bool = every (m .stages) (stageAscends m) in
+        let f : Bool = every (m .places) (λ u. leb (leaving m u) mostLeaving) in
+        let z : f ≡ false = every-false (m .places) (λ u. leb (leaving m u) mostLeaving) t inside (lt-leb (leaving m t) mostLeaving nine) in
+        sym (both-false-right e (both a f) (both-false-right a f z))
+
+    pub staged-step : (n : ℕ) → from ≤ stageKey m i → getD l t 0 < mostLeaving → n ≡ stageKey m i + 1 → Staged m (i + 1) n old (set l t (getD l t 0 + 1))
+    staged-step n o c e = record {
+      each = every-more i (stageHolds m) (S .each) (H .holds);
+      sorted = every-more i (stageAscends m) (S .sorted) (ascends-by ∙ le-leb from (stageKey m i) o);
+      next = rw (add-one i) e;
+      long = simp length-set (S .long);
+      counted = counted;
+      few = few;
+      beyond = λ k p. getD-set-other l t k (getD l t 0 + 1) 0 (λ d. omega (arith, inside)) ∙ S .beyond k p;
+    }
       where
-        go : (i : ℕ) → every i (stageHolds m) ≡ true → Ends m i → stageAscends m i ≡ leb (stageFrom m i) (stageKey m i)
-        go zero h E = sym (le-leb 0 (stageKey m 0) (omega arith))
-        go (suc j) h E =
-            let F : Ends m j = ends-of m j (every-true (suc j) (stageHolds m) h j (omega arith)) in
-            before-key (m .tail j) (m .head j) (m .tail (suc j)) (m .head (suc j)) (omega arith) (omega arith)
+        new : getD (set l t (getD l t 0 + 1)) t 0 ≡ getD l t 0 + 1
+        new = getD-set-same l t (getD l t 0 + 1) 0 (omega (arith, S .long, inside))
 
-    pub out-of-order : stageKey m i < from → false ≡ stagesHold m
-    out-of-order h = order-fails (ascends-by ∙ lt-leb from (stageKey m i) h)
+        counted : (u : ℕ) → u < m .places → getD (set l t (getD l t 0 + 1)) u 0 ≡ leavingBelow m (i + 1) u
+        counted u p = elim (ℕ-discrete u t) [
+          | yes d ↦ rw d (omega (arith, new, S .counted t inside, more-leave m i t (sym is)))
+          | no d ↦ rw (getD-set-other l t u (getD l t 0 + 1) 0 d) (S .counted u p ∙ sym (as-many-leave m i u (λ e. d (sym e ∙ sym is))))
+        ]
 
-    -- t is the tail, by the name that the code has for it
-    module _ (t : ℕ) (is : t ≡ m .tail i) where
-      pub ninth : mostLeaving ≤ getD l t 0 → false ≡ stagesHold m
-      unfolding stagesHold
-      ninth h =
-          let inside : t < m .places = omega (arith, E .tail) in
-          let nine : mostLeaving < leaving m t = omega (arith, S .counted t inside, more-leave m i t (sym is), leave-most m t (i + 1) (omega arith)) in
-          let e : Bool = every (m .stages) (stageHolds m) in
-          let a : Bool = every (m .stages) (stageAscends m) in
-          let f : Bool = every (m .places) (λ u. leb (leaving m u) mostLeaving) in
-          let z : f ≡ false = every-false (m .places) (λ u. leb (leaving m u) mostLeaving) t inside (lt-leb (leaving m t) mostLeaving nine) in
-          sym (both-false-right e (both a f) (both-false-right a f z))
+        few : (u : ℕ) → u < m .places → getD (set l t (getD l t 0 + 1)) u 0 ≤ mostLeaving
+        few u p = elim (ℕ-discrete u t) [
+          | yes d ↦ rw d (omega (arith, new))
+          | no d ↦ rw (getD-set-other l t u (getD l t 0 + 1) 0 d) (S .few u p)
+        ]
 
-      pub staged-step : (n : ℕ) → stageHolds m i ≡ true → from ≤ stageKey m i → getD l t 0 < mostLeaving → n ≡ stageKey m i + 1
-          → Staged m (i + 1) n (set l t (getD l t 0 + 1))
-      staged-step n h o c e = record {
-        each = every-more i (stageHolds m) (S .each) h;
-        sorted = every-more i (stageAscends m) (S .sorted) (ascends-by ∙ le-leb from (stageKey m i) o);
-        next = rw (add-one i) e;
-        long = simp length-set (S .long);
-        counted = counted;
-        few = few-more;
-      }
-        where
-          inside : t < m .places
-          inside = omega (arith, E .tail)
-
-          new : getD (set l t (getD l t 0 + 1)) t 0 ≡ getD l t 0 + 1
-          new = getD-set-same l t (getD l t 0 + 1) 0 (omega (arith, S .long, inside))
-
-          counted : (u : ℕ) → u < m .places → getD (set l t (getD l t 0 + 1)) u 0 ≡ leavingBelow m (i + 1) u
-          counted u p = elim (ℕ-discrete u t) [
-            | yes d ↦ rw d (omega (arith, new, S .counted t inside, more-leave m i t (sym is)))
-            | no d ↦ rw (getD-set-other l t u (getD l t 0 + 1) 0 d) (S .counted u p ∙ sym (as-many-leave m i u (λ e. d (sym e ∙ sym is))))
-          ]
-
-          few-more : (u : ℕ) → u < m .places → getD (set l t (getD l t 0 + 1)) u 0 ≤ mostLeaving
-          few-more u p = elim (ℕ-discrete u t) [
-            | yes d ↦ rw d (omega (arith, new))
-            | no d ↦ rw (getD-set-other l t u (getD l t 0 + 1) 0 d) (S .few u p)
-          ]
-
-pub staged-end : (m : Map) (i from : ℕ) (l : List ℕ) → Staged m i from l → i ≡ m .stages → (true ≡ stagesHold m) × Leaving m l
+pub staged-end : {m : Map} {i from : ℕ} {old l : List ℕ} → Staged m i from old l → i ≡ m .stages → (true ≡ stagesHold m) × Leaving m l
 unfolding stagesHold
-staged-end m i from l S e = (sym (both-true _ _ (rw e at (S .each)) (both-true _ _ (rw e at (S .sorted)) (every-of (m .places) (λ u. leb (leaving m u) mostLeaving) few))), counted)
+staged-end {m} {l = l} S e = (sym (both-true _ _ (rw e at (S .each)) (both-true _ _ (rw e at (S .sorted)) (every-of (m .places) (λ u. leb (leaving m u) mostLeaving) few))), counted)
   where
     counted : Leaving m l
     counted u p = S .counted u p ∙ rw e (leave-all m u)

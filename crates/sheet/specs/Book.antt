@@ -6,13 +6,23 @@ use lib.ListN.{length, getD}
 use Rattle.paper.specs.declared.Counts.{Counts}
 use Rattle.paper.specs.Map.{Map}
 use Rattle.paper.specs.Stage.{stagesBelow}
+use Rattle.paper.specs.Slice.{Untouched}
 
--- word u of first is where the stages that leave u begin; the others hold the stages
+-- the first n words are f 0, f 1 and so on
+pub record Holds (n : ℕ) (f : ℕ → ℕ) (l : List ℕ) : Type 0 where
+  pub long : n ≤ length l
+  pub each : (i : ℕ) → i < n → getD l i 0 ≡ f i
+
+-- word u of first is where the stages that leave u begin; the others hold the head and the length of each stage
+pub record Leads (m : Map) (first heads lengths : List ℕ) : Type 0 where
+  pub begins : Holds (m .places) (λ u. stagesBelow m u (m .stages)) first
+  pub to : Holds (m .stages) (m .head) heads
+  pub long : Holds (m .stages) (m .furlongs) lengths
+
+-- and one more holds the tails
 pub record Book (m : Map) (first tails heads lengths : List ℕ) : Type 0 where
-  pub begins : (u : ℕ) → u < m .places → getD first u 0 ≡ stagesBelow m u (m .stages)
-  pub tail : (i : ℕ) → i < m .stages → getD tails i 0 ≡ m .tail i
-  pub head : (i : ℕ) → i < m .stages → getD heads i 0 ≡ m .head i
-  pub furlongs : (i : ℕ) → i < m .stages → getD lengths i 0 ≡ m .furlongs i
+  pub leads : Leads m first heads lengths
+  pub from : Holds (m .stages) (m .tail) tails
 
 -- the slices have a word for each place, and for each stage
 pub record Roomy (c : Counts) (first tails heads lengths : List ℕ) : Type 0 where
@@ -21,21 +31,17 @@ pub record Roomy (c : Counts) (first tails heads lengths : List ℕ) : Type 0 wh
   pub head : c .stages ≤ length heads
   pub furlongs : c .stages ≤ length lengths
 
--- words from n on are untouched
-abbrev pub Beyond : ℕ → List ℕ → List ℕ → Type 0
-Beyond n before after = (k : ℕ) → n ≤ k → getD after k 0 ≡ getD before k 0
-
 -- words past those that the book takes are untouched
 pub record Past (c : Counts) (first tails heads lengths first′ tails′ heads′ lengths′ : List ℕ) : Type 0 where
-  pub places : Beyond (c .places) first first′
-  pub tail : Beyond (c .stages) tails tails′
-  pub head : Beyond (c .stages) heads heads′
-  pub furlongs : Beyond (c .stages) lengths lengths′
+  pub places : Untouched (c .places) first first′
+  pub tail : Untouched (c .stages) tails tails′
+  pub head : Untouched (c .stages) heads heads′
+  pub furlongs : Untouched (c .stages) lengths lengths′
 
 -- the first n words are f 0, f 1 and so on, later words untouched
 pub record Filled (n : ℕ) (f : ℕ → ℕ) (before after : List ℕ) : Type 0 where
   pub words : (i : ℕ) → i < n → getD after i 0 ≡ f i
-  pub beyond : Beyond n before after
+  pub beyond : Untouched n before after
 
 -- b parts the first n tails, which ascend: those before b are below u, the others not
 pub record Begins (tails : List ℕ) (n u b : ℕ) : Type 0 where

@@ -3,7 +3,7 @@ use Prim.Native.Nat.{ℕ, zero, suc, _+_, _*_, _≤_}
 use mathlib.Core.Path.{_≡_}
 use mathlib.Core.List.{List}
 use Rattle.paper.specs.declared.Counts.{Counts}
-use Rattle.paper.specs.Sizes.{placeWords, stageWords, blockWords, mostPlaces, mostStages, mostBlocks, mostOffices}
+use Rattle.paper.specs.Sizes.{placeWords, stageWords, blockWords, mostPlaces, mostStages, mostBlocks}
 use Rattle.paper.specs.Sheet.{word, stagesAt, blocksAt, officesAt}
 use Rattle.paper.specs.Layout.{sections, layout}
 use Rattle.sheet.specs.declared.Laid.{Laid}
@@ -29,17 +29,16 @@ abbrev pub countedBy : ℕ → ℕ → Counted
 countedBy n zero = counted.Records n
 countedBy n (suc d) = counted.Refused (suc d)
 
--- the sections of the sheet are whole, and have these counts
+-- all four sections of the sheet are whole, and have these counts
 pub record Sectioned (s : List ℕ) (c : Counts) : Type 0 where
   pub whole : sections s ≡ 0
   pub counts : c ≡ countsOf s
 
--- each count is at most its section's most
+-- each count of the ground is at most its section's most
 pub record Within (c : Counts) : Type 0 where
   pub places : c .places ≤ mostPlaces
   pub stages : c .stages ≤ mostStages
   pub blocks : c .blocks ≤ mostBlocks
-  pub offices : c .offices ≤ mostOffices
 
 -- the words at which the counts stand, by the counts
 abbrev pub stagesFrom : Counts → ℕ
@@ -50,3 +49,7 @@ blocksFrom c = stagesFrom c + 1 + stageWords * c .stages
 
 abbrev pub officesFrom : Counts → ℕ
 officesFrom c = blocksFrom c + 1 + blockWords * c .blocks
+
+-- the byte at which the office records begin
+abbrev pub listFrom : Counts → ℕ
+listFrom c = 4 * (officesFrom c + 1)

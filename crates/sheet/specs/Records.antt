@@ -9,10 +9,10 @@ use Rattle.paper.specs.Stage.{leaving}
 use Rattle.sheet.specs.declared.stages.Stage.{Stage}
 use Rattle.sheet.specs.declared.blocks.Block.{Block}
 
--- where the place i lies
-pub record PlaceIs (m : Map) (i : ℕ) (p : Cell) : Type 0 where
-  pub x : m .x i ≡ p .x
-  pub y : m .y i ≡ p .y
+-- the place v lies in the cell c
+pub record LiesAt (m : Map) (v : ℕ) (c : Cell) : Type 0 where
+  pub x : c .x ≡ m .x v
+  pub y : c .y ≡ m .y v
 
 pub record StageIs (m : Map) (i : ℕ) (t : Stage) : Type 0 where
   pub tail : m .tail i ≡ t .tail

@@ -1,10 +1,11 @@
 // The rule of the blocks (5).
 use crate::blocks_at;
-use crate::sizes::ALL_CELLS;
-use crate::sizes::BLOCK_WORDS;
-use crate::sizes::TOP_LEVEL;
 use crate::word;
+use cells::cells_under;
 use paper::Counts;
+use paper::sizes::ALL_CELLS;
+use paper::sizes::BLOCK_WORDS;
+use paper::sizes::TOP_LEVEL;
 ghost use mathlib.Core.Path.{_≡_};
 ghost use Prim.Native.Nat.{ℕ, _+_, _*_, _%_, _^_, _≤_, _<_};
 ghost use lib.Dec.{eqb};
@@ -13,11 +14,11 @@ ghost use Rattle.paper.specs.Sizes.{blockWords, topLevel};
 ghost use Rattle.paper.specs.Map.{Map};
 ghost use Rattle.paper.specs.Sheet.{mapOf, blocksAt};
 ghost use Rattle.paper.specs.Layout.{blockHolds, blocksHold};
-ghost use Rattle.sheet.specs.Laid.{Sectioned};
+ghost use Rattle.sheet.specs.Ground.{Parted};
 ghost use Rattle.sheet.specs.Records.{BlockIs, Leaving};
 
 // More than the end of any block.
-const SPAN: u32 = 2097152;
+const SPAN: u32 = 2 * ALL_CELLS;
 
 pub struct Block {
     pub owner: u32,
@@ -43,20 +44,12 @@ fn read_block(sheet: &[u8], base: usize, i: usize) -> Block
     }
 }
 
-// How many cells a block of the level covers.
-fn cells_of(level: u32) -> u32
-    requires { ⌜ level ≤ topLevel ⌝ }
-    ensures { λ r. ⌜ r ≡ 4 ^ level ⌝ }
-{
-    1 << (2 * level)
-}
-
 // The code is a multiple of 4^level.
 fn is_aligned(code: u32, level: u32) -> bool
     requires { ⌜ level ≤ topLevel ⌝ }
     ensures { λ r. ⌜ r ≡ eqb (code % 4 ^ level) 0 ⌝ }
 {
-    code & (cells_of(level) - 1) == 0
+    code & (cells_under(level) - 1) == 0
 }
 
 // What a block has to keep by itself.
@@ -77,15 +70,15 @@ fn block_holds(block: Block, places: usize, leaving: &[u32]) -> bool
     if !is_aligned(block.code, block.level) {
         return false;
     }
-    if block.colour >= leaving[owner] {
+    if block.low > block.high {
         return false;
     }
-    block.low <= block.high
+    block.colour < leaving[owner]
 }
 
 // Whether each block holds, and they ascend by place and within a place by code without overlap.
 pub fn blocks_hold(sheet: &[u8], counts: Counts, leaving: &[u32]) -> bool
-    requires { ⌜ Sectioned (now sheet) counts ⌝ }
+    requires { ⌜ Parted (now sheet) counts ⌝ }
     requires { ⌜ counts .places ≤ length (now leaving) ⌝ }
     requires { ⌜ Leaving (mapOf (now sheet)) (now leaving) ⌝ }
     ensures { λ r. ⌜ r ≡ blocksHold (mapOf (now (sheet .entry))) ⌝ }
@@ -104,7 +97,7 @@ pub fn blocks_hold(sheet: &[u8], counts: Counts, leaving: &[u32]) -> bool
         if key < from {
             return false;
         }
-        from = key + cells_of(block.level);
+        from = key + cells_under(block.level);
     }
     true
 }

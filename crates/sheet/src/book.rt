@@ -1,11 +1,12 @@
 // What fills the road book.
-use crate::sizes::STAGE_WORDS;
 use crate::word;
+use paper::sizes::STAGE_WORDS;
 ghost use Prim.Native.Nat.{ℕ, _+_, _*_, _≤_, _<_};
 ghost use lib.ListN.{length, getD};
 ghost use Rattle.paper.specs.Sizes.{stageWords, mostPlaces, mostStages};
 ghost use Rattle.paper.specs.Sheet.{word as wordOf};
-ghost use Rattle.sheet.specs.Book.{Beyond, Filled, Begins, Next, Ascending};
+ghost use Rattle.paper.specs.Slice.{Untouched};
+ghost use Rattle.sheet.specs.Book.{Filled, Begins, Next, Ascending};
 
 // One word of each of n stage records, the first at word `base`, into the slice.
 pub fn column(sheet: &[u8], base: usize, n: usize, out: &mut [u32])
@@ -37,7 +38,7 @@ pub fn starts(tails: &[u32], n: usize, places: usize, first: &mut [u32])
     requires { ⌜ (n ≤ length (now tails)) × (n ≤ mostStages) × (places ≤ length (now first)) × (places ≤ mostPlaces) ⌝ }
     requires { ⌜ Ascending (now tails) n ⌝ }
     ensures { λ _. ⌜ ((u : ℕ) → u < places → Begins (now (tails .entry)) n u (getD (now (first .exit)) u 0)) ⌝ }
-    ensures { λ _. ⌜ Beyond places (now (first .entry)) (now (first .exit)) ⌝ }
+    ensures { λ _. ⌜ Untouched places (now (first .entry)) (now (first .exit)) ⌝ }
 {
     let mut i = 0;
     for u in 0..places {

@@ -2,23 +2,23 @@
 mod blocks;
 mod book;
 mod offices;
-mod places;
+pub mod places;
 mod sections;
-mod sizes;
 mod stages;
 
 use paper::Counts;
-use sizes::BLOCK_WORDS;
-use sizes::MOST_PLACES;
-use sizes::PLACE_WORDS;
-use sizes::STAGE_WORDS;
+use paper::sizes::BLOCK_WORDS;
+use paper::sizes::MOST_PLACES;
+use paper::sizes::PLACE_WORDS;
+use paper::sizes::STAGE_WORDS;
+use paper::sizes::WORD_BYTES;
 ghost use mathlib.Core.Path.{_≡_};
 ghost use Prim.Native.Nat.{_+_, _*_, _≤_, _<_};
 ghost use lib.ListN.{length};
 ghost use Rattle.paper.specs.Sheet.{word as wordOf, mapOf};
-ghost use Rattle.paper.specs.Layout.{layout as layoutOf};
 ghost use Rattle.sheet.specs.Book.{Book, Roomy, Past};
-ghost use Rattle.sheet.specs.Laid.{countsOf, Sectioned, Within, stagesFrom, blocksFrom, officesFrom, laidOf};
+ghost use Rattle.sheet.specs.Laid.{Sectioned, Within, stagesFrom, blocksFrom, officesFrom, listFrom, laidOf};
+ghost use Rattle.sheet.specs.Ground.{Mapped};
 
 // What the layout of a sheet comes to: the counts of its sections, or the number of the refusal.
 pub enum Laid {
@@ -37,7 +37,7 @@ pub fn word(sheet: &[u8], i: usize) -> u32
     requires { ⌜ 4 * i + 4 ≤ length (now sheet) ⌝ }
     ensures { λ r. ⌜ r ≡ wordOf (now (sheet .entry)) i ⌝ }
 {
-    let at = 4 * i;
+    let at = WORD_BYTES * i;
     let low = wide(sheet[at]) + 256 * wide(sheet[at + 1]);
     let high = wide(sheet[at + 2]) + 256 * wide(sheet[at + 3]);
     low + 65536 * high
@@ -67,6 +67,14 @@ pub fn offices_at(counts: Counts) -> usize
     blocks_at(counts) + 1 + BLOCK_WORDS * counts.blocks
 }
 
+// The byte at which the office records begin.
+pub fn list_at(counts: Counts) -> usize
+    requires { ⌜ Within counts ⌝ }
+    ensures { λ r. ⌜ r ≡ listFrom counts ⌝ }
+{
+    WORD_BYTES * (offices_at(counts) + 1)
+}
+
 // The rules that the records keep (3 to 6), where the sections are whole.
 fn records(sheet: &[u8], counts: Counts) -> Laid
     requires { ⌜ Sectioned (now sheet) counts ⌝ }
@@ -82,7 +90,8 @@ fn records(sheet: &[u8], counts: Counts) -> Laid
     if !blocks::blocks_hold(sheet, counts, &leaving) {
         return Laid::Refused(5);
     }
-    if !offices::offices_hold(sheet, counts) {
+    let at = list_at(counts);
+    if !offices::offices_hold(&sheet[at..], counts.places) {
         return Laid::Refused(6);
     }
     Laid::Out(counts)
@@ -99,7 +108,7 @@ pub fn layout(sheet: &[u8]) -> Laid
     }
 }
 
-// The road book of a sheet with nothing due: where the stages of each place begin, and their tails, heads and lengths.
+// The road book of a map that is read off the bytes: where the stages of each place begin, and their tails, heads and lengths.
 pub fn road_book(
     sheet: &[u8],
     counts: Counts,
@@ -108,7 +117,7 @@ pub fn road_book(
     heads: &mut [u32],
     lengths: &mut [u32],
 )
-    requires { ⌜ (layoutOf (now sheet) ≡ 0) × (counts ≡ countsOf (now sheet)) ⌝ }
+    requires { ⌜ Mapped (now sheet) counts ⌝ }
     requires { ⌜ Roomy counts (now first) (now tails) (now heads) (now lengths) ⌝ }
     ensures { λ _. ⌜ Book (mapOf (now (sheet .entry))) (now (first .exit)) (now (tails .exit)) (now (heads .exit)) (now (lengths .exit)) ⌝ }
     ensures { λ _. ⌜ Past counts (now (first .entry)) (now (tails .entry)) (now (heads .entry)) (now (lengths .entry)) (now (first .exit)) (now (tails .exit)) (now (heads .exit)) (now (lengths .exit)) ⌝ }

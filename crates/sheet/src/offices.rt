@@ -1,21 +1,18 @@
 // The rule of the offices (6): each stands at a place.
-use crate::offices_at;
 use crate::word;
-use paper::Counts;
+use paper::sizes::WORD_BYTES;
 ghost use mathlib.Core.Path.{_≡_};
-ghost use Rattle.paper.specs.Sheet.{mapOf, officesOf};
+ghost use Rattle.paper.specs.Map.{Map};
+ghost use Rattle.paper.specs.Sheet.{officesIn};
 ghost use Rattle.paper.specs.Layout.{officesHold};
-ghost use Rattle.sheet.specs.Laid.{Sectioned};
 
-pub fn offices_hold(sheet: &[u8], counts: Counts) -> bool
-    requires { ⌜ Sectioned (now sheet) counts ⌝ }
-    ensures { λ r. ⌜ r ≡ officesHold (mapOf (now (sheet .entry))) (officesOf (now (sheet .entry))) ⌝ }
+// Whether each office of the list, a slice of its own, stands at one of the places.
+pub fn offices_hold(list: &[u8], places: usize) -> bool
+    ensures { λ r. ⌜ ((m : Map) → m .places ≡ places → r ≡ officesHold m (officesIn (now (list .entry)))) ⌝ }
 {
-    let places = counts.places;
-    let offices = counts.offices;
-    let at = offices_at(counts) + 1;
+    let offices = list.len() / WORD_BYTES;
     for i in 0..offices {
-        if word(sheet, at + i) as usize >= places {
+        if word(list, i) as usize >= places {
             return false;
         }
     }

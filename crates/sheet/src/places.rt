@@ -1,10 +1,10 @@
 // The rule of the places (3): each lies on the grid, and no two in one cell.
-use crate::sizes::GRID_SIDE;
-use crate::sizes::MOST_PLACES;
-use crate::sizes::PLACE_WORDS;
 use crate::word;
 use paper::Cell;
 use paper::Counts;
+use paper::sizes::GRID_SIDE;
+use paper::sizes::MOST_PLACES;
+use paper::sizes::PLACE_WORDS;
 ghost use mathlib.Core.Path.{_≡_};
 ghost use mathlib.Core.Bool.{not};
 ghost use Prim.Native.Nat.{_+_, _*_, _≤_};
@@ -14,14 +14,15 @@ ghost use Rattle.paper.specs.Sizes.{placeWords};
 ghost use Rattle.paper.specs.Test.{every};
 ghost use Rattle.paper.specs.Sheet.{mapOf};
 ghost use Rattle.paper.specs.Layout.{placesHold};
-ghost use Rattle.sheet.specs.Laid.{Sectioned};
-ghost use Rattle.sheet.specs.Records.{PlaceIs};
+ghost use Rattle.sheet.specs.Ground.{Parted};
+ghost use Rattle.sheet.specs.Records.{LiesAt};
 
-fn read_place(sheet: &[u8], i: usize) -> Cell
-    requires { ⌜ 4 * (1 + placeWords * i + placeWords) ≤ length (now sheet) ⌝ }
-    ensures { λ r. ⌜ PlaceIs (mapOf (now (sheet .entry))) i r ⌝ }
+// Where the place v lies.
+pub fn cell_of(sheet: &[u8], v: usize) -> Cell
+    requires { ⌜ 4 * (1 + placeWords * v + placeWords) ≤ length (now sheet) ⌝ }
+    ensures { λ r. ⌜ LiesAt (mapOf (now (sheet .entry))) v r ⌝ }
 {
-    let at = 1 + PLACE_WORDS * i;
+    let at = 1 + PLACE_WORDS * v;
     Cell {
         x: word(sheet, at),
         y: word(sheet, at + 1),
@@ -44,13 +45,13 @@ fn is_free(cells: &[u32], i: usize, cell: u32) -> bool
 }
 
 pub fn places_hold(sheet: &[u8], counts: Counts) -> bool
-    requires { ⌜ Sectioned (now sheet) counts ⌝ }
+    requires { ⌜ Parted (now sheet) counts ⌝ }
     ensures { λ r. ⌜ r ≡ placesHold (mapOf (now (sheet .entry))) ⌝ }
 {
     let places = counts.places;
     let mut cells = [0u32; MOST_PLACES];
     for i in 0..places {
-        let place = read_place(sheet, i);
+        let place = cell_of(sheet, i);
         if place.x >= GRID_SIDE {
             return false;
         }

@@ -1,15 +1,16 @@
 // The sections of a sheet, one after the other.
 use crate::Laid;
-use crate::sizes::BLOCK_WORDS;
-use crate::sizes::MOST_BLOCKS;
-use crate::sizes::MOST_OFFICES;
-use crate::sizes::MOST_PLACES;
-use crate::sizes::MOST_STAGES;
-use crate::sizes::OFFICE_WORDS;
-use crate::sizes::PLACE_WORDS;
-use crate::sizes::STAGE_WORDS;
 use crate::word;
 use paper::Counts;
+use paper::sizes::BLOCK_WORDS;
+use paper::sizes::MOST_BLOCKS;
+use paper::sizes::MOST_OFFICES;
+use paper::sizes::MOST_PLACES;
+use paper::sizes::MOST_STAGES;
+use paper::sizes::OFFICE_WORDS;
+use paper::sizes::PLACE_WORDS;
+use paper::sizes::STAGE_WORDS;
+use paper::sizes::WORD_BYTES;
 ghost use mathlib.Core.Path.{_≡_};
 ghost use Prim.Native.Nat.{_≤_};
 ghost use Rattle.paper.specs.Sizes.{blockWords};
@@ -28,7 +29,7 @@ pub fn section(sheet: &[u8], at: usize, least: usize, most: usize, size: usize) 
     requires { ⌜ size ≤ blockWords ⌝ }
     ensures { λ r. ⌜ r ≡ countedBy (wordOf (now (sheet .entry)) at) (sectionOf (now (sheet .entry)) at least most size) ⌝ }
 {
-    let words = sheet.len() / 4;
+    let words = sheet.len() / WORD_BYTES;
     if at >= words {
         return Counted::Refused(1);
     }
@@ -50,7 +51,7 @@ pub fn section(sheet: &[u8], at: usize, least: usize, most: usize, size: usize) 
 pub fn sections(sheet: &[u8]) -> Laid
     ensures { λ r. ⌜ r ≡ laidBy (now (sheet .entry)) (sectionsOf (now (sheet .entry))) ⌝ }
 {
-    if sheet.len() % 4 != 0 {
+    if sheet.len() % WORD_BYTES != 0 {
         return Laid::Refused(1);
     }
     let places = match section(sheet, 0, 1, MOST_PLACES, PLACE_WORDS) {
@@ -72,7 +73,7 @@ pub fn sections(sheet: &[u8]) -> Laid
         Counted::Records(n) => n,
         Counted::Refused(d) => return Laid::Refused(d),
     };
-    if offices_at + 1 + offices != sheet.len() / 4 {
+    if offices_at + 1 + offices != sheet.len() / WORD_BYTES {
         return Laid::Refused(1);
     }
     Laid::Out(Counts {

@@ -1,10 +1,11 @@
 // The rule of the stages (4), and how many leave each place.
-use crate::sizes::MOST_FURLONGS;
-use crate::sizes::MOST_LEAVING;
-use crate::sizes::STAGE_WORDS;
 use crate::stages_at;
 use crate::word;
 use paper::Counts;
+use paper::sizes::MOST_FURLONGS;
+use paper::sizes::MOST_LEAVING;
+use paper::sizes::MOST_PLACES;
+use paper::sizes::STAGE_WORDS;
 ghost use mathlib.Core.Path.{_≡_};
 ghost use mathlib.Core.Bool.{true};
 ghost use Prim.Native.Nat.{ℕ, _+_, _*_, _≤_, _<_};
@@ -13,11 +14,12 @@ ghost use Rattle.paper.specs.Sizes.{stageWords};
 ghost use Rattle.paper.specs.Map.{Map};
 ghost use Rattle.paper.specs.Sheet.{mapOf, stagesAt};
 ghost use Rattle.paper.specs.Layout.{stageHolds, stagesHold};
-ghost use Rattle.sheet.specs.Laid.{Sectioned};
+ghost use Rattle.paper.specs.Slice.{Untouched};
+ghost use Rattle.sheet.specs.Ground.{Parted};
 ghost use Rattle.sheet.specs.Records.{StageIs, Zeros, Leaving};
 
 // More than any place.
-const SPAN: u32 = 1024;
+const SPAN: u32 = MOST_PLACES as u32;
 
 pub struct Stage {
     pub tail: u32,
@@ -56,12 +58,13 @@ fn stage_holds(stage: Stage, places: usize) -> bool
     stage.furlongs <= MOST_FURLONGS
 }
 
-// Whether each stage holds, they strictly ascend by (tail, head), and at most 8 leave a place; if so, leaving[u] leave u.
+// Whether each stage holds, they strictly ascend by (tail, head), and at most 8 leave a place; if so, leaving[u] leave u. Words past the places stay.
 pub fn stages_hold(sheet: &[u8], counts: Counts, leaving: &mut [u32]) -> bool
-    requires { ⌜ Sectioned (now sheet) counts ⌝ }
+    requires { ⌜ Parted (now sheet) counts ⌝ }
     requires { ⌜ Zeros (counts .places) (now leaving) ⌝ }
     ensures { λ r. ⌜ r ≡ stagesHold (mapOf (now (sheet .entry))) ⌝ }
     ensures { λ r. ⌜ (r ≡ true → Leaving (mapOf (now (sheet .entry))) (now (leaving .exit))) ⌝ }
+    ensures { λ _. ⌜ Untouched (counts .places) (now (leaving .entry)) (now (leaving .exit)) ⌝ }
 {
     let places = counts.places;
     let stages = counts.stages;

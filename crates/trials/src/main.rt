@@ -4,29 +4,64 @@ mod marked;
 use crate::marked::MARKED;
 use libc::STDOUT_FILENO;
 use nearest::question;
+use paper::sizes::BLOCK_WORDS;
+use paper::sizes::LINE_WORDS;
+use paper::sizes::OFFICE_WORDS;
+use paper::sizes::PLACE_WORDS;
+use paper::sizes::SLOT_WORDS;
+use paper::sizes::STAGE_WORDS;
+use paper::sizes::WORD_BYTES;
 use sheet::Laid;
 use sheet::layout;
 use truth::check;
 
-// Words of the marked sheet that the cases change.
-const X_OF_PLACE_2: usize = 5;
+// How many places, stages, blocks and offices the marked sheet has.
+const PLACES: usize = 4;
 
-const LENGTH_OF_STAGE_0: usize = 12;
+const STAGES: usize = 6;
 
-const LEVEL_OF_BLOCK_5: usize = 61;
+const BLOCKS: usize = 7;
 
-const LOW_OF_BLOCK_5: usize = 63;
+const OFFICES: usize = 3;
 
-const WORDS: usize = 75;
+// The words at which its counts stand, and how many words and bytes it has.
+const STAGES_AT: usize = 1 + PLACE_WORDS * PLACES;
 
-const BYTES: usize = 300;
+const BLOCKS_AT: usize = STAGES_AT + 1 + STAGE_WORDS * STAGES;
+
+const OFFICES_AT: usize = BLOCKS_AT + 1 + BLOCK_WORDS * BLOCKS;
+
+pub const WORDS: usize = OFFICES_AT + 1 + OFFICE_WORDS * OFFICES;
+
+const BYTES: usize = WORD_BYTES * WORDS;
+
+// The words that the cases change.
+const X_OF_PLACE_2: usize = 1 + PLACE_WORDS * 2;
+
+const LENGTH_OF_STAGE_0: usize = STAGES_AT + STAGE_WORDS;
+
+const LEVEL_OF_BLOCK_5: usize = BLOCKS_AT + 3 + BLOCK_WORDS * 5;
+
+const LOW_OF_BLOCK_5: usize = BLOCKS_AT + 5 + BLOCK_WORDS * 5;
+
+// Bytes of the sheet as far as its first office, of the sheet without its last block, and of what stands before that block.
+const FRONT_BYTES: usize = WORD_BYTES * (OFFICES_AT + 1 + OFFICE_WORDS);
+
+const LAST_BLOCK_BYTES: usize = WORD_BYTES * BLOCK_WORDS;
+
+const SHORT_BYTES: usize = BYTES - LAST_BLOCK_BYTES;
+
+const LAST_BLOCK_AT: usize = WORD_BYTES * (OFFICES_AT - BLOCK_WORDS);
+
+// How many blocks are left without the last one.
+const BLOCKS_LEFT: u32 = BLOCKS as u32 - 1;
 
 // The words as bytes, low byte first.
-fn bytes_of(words: [u32; 75]) -> [u8; 300] {
+fn bytes_of(words: [u32; WORDS]) -> [u8; BYTES] {
     let mut bytes = [0u8; BYTES];
     for i in 0..WORDS {
         let word = words[i];
-        let at = 4 * i;
+        let at = WORD_BYTES * i;
         bytes[at] = (word % 256) as u8;
         bytes[at + 1] = (word / 256 % 256) as u8;
         bytes[at + 2] = (word / 65536 % 256) as u8;
@@ -36,7 +71,7 @@ fn bytes_of(words: [u32; 75]) -> [u8; 300] {
 }
 
 // The marked sheet with one word changed.
-fn with_word(i: usize, value: u32) -> [u8; 300] {
+fn with_word(i: usize, value: u32) -> [u8; BYTES] {
     let mut words = MARKED;
     if i < WORDS {
         words[i] = value;
@@ -45,25 +80,29 @@ fn with_word(i: usize, value: u32) -> [u8; 300] {
 }
 
 // The sheet up to its first office.
-fn front(sheet: [u8; 300]) -> [u8; 292] {
-    let mut bytes = [0u8; 292];
-    for i in 0..292 {
+fn front(sheet: [u8; BYTES]) -> [u8; FRONT_BYTES] {
+    let mut bytes = [0u8; FRONT_BYTES];
+    for i in 0..FRONT_BYTES {
         bytes[i] = sheet[i];
     }
     bytes
 }
 
 // The marked sheet with office 0 alone.
-fn one_office() -> [u8; 292] {
-    front(with_word(71, 1))
+fn one_office() -> [u8; FRONT_BYTES] {
+    front(with_word(OFFICES_AT, 1))
 }
 
-// The marked sheet without its last block, that of place 3: the office section moves up by its six words.
-fn without_last_block() -> [u8; 276] {
-    let sheet = with_word(28, 6);
-    let mut bytes = [0u8; 276];
-    for i in 0..276 {
-        bytes[i] = if i < 260 { sheet[i] } else { sheet[i + 24] };
+// The marked sheet without its last block, that of place 3: the office section moves up by its words.
+fn without_last_block() -> [u8; SHORT_BYTES] {
+    let sheet = with_word(BLOCKS_AT, BLOCKS_LEFT);
+    let mut bytes = [0u8; SHORT_BYTES];
+    for i in 0..SHORT_BYTES {
+        bytes[i] = if i < LAST_BLOCK_AT {
+            sheet[i]
+        } else {
+            sheet[i + LAST_BLOCK_BYTES]
+        };
     }
     bytes
 }
@@ -90,7 +129,7 @@ fn laid(name: &[u8], sheet: &[u8]) {
 
 // The number of the check.
 fn checked(name: &[u8], sheet: &[u8]) {
-    let mut distances = [0u32; 16];
+    let mut distances = [0u32; PLACES * PLACES];
     let number = check(sheet, &mut distances);
     say(name, number as u64);
     end_line();
@@ -100,7 +139,7 @@ fn checked(name: &[u8], sheet: &[u8]) {
 fn list(answer: &[u64], words: usize) {
     for i in 0..words {
         if i < answer.len() {
-            if i % 4 == 0 {
+            if i % LINE_WORDS == 0 {
                 say(b"; ", answer[i]);
             } else {
                 say(b" ", answer[i]);
@@ -111,19 +150,19 @@ fn list(answer: &[u64], words: usize) {
 
 // A question's number, counts and list.
 fn asked(name: &[u8], sheet: &[u8], q: u32, k: u32) {
-    let mut answer = [0u64; 16];
-    let mut working = [0u64; 18];
+    let mut answer = [0u64; LINE_WORDS * OFFICES];
+    let mut working = [0u64; SLOT_WORDS * OFFICES];
     let reply = question(sheet, q, k, &mut answer, &mut working);
     let count = reply.count;
     say(name, reply.number as u64);
     say(b", ", count as u64);
     say(b" listed, refinements ", reply.refinements);
-    list(&answer, 4 * count as usize);
+    list(&answer, LINE_WORDS * count as usize);
     end_line();
 }
 
 fn questions() {
-    let marked = with_word(0, 4);
+    let marked = with_word(0, PLACES as u32);
     asked(b"q = 2, k = 1: ", &marked, 2, 1);
     asked(b"q = 2, k = 2: ", &marked, 2, 2);
     asked(b"q = 2, k = 3: ", &marked, 2, 3);
@@ -149,7 +188,7 @@ fn layouts() {
 }
 
 fn checks() {
-    checked(b"the marked sheet: check ", &with_word(0, 4));
+    checked(b"the marked sheet: check ", &with_word(0, PLACES as u32));
     checked(
         b"low ratio 65 of place 2: check ",
         &with_word(LOW_OF_BLOCK_5, 65),

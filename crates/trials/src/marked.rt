@@ -1,5 +1,7 @@
 // The words of the paper's sheet to work by.
-pub const MARKED: [u32; 75] = [
+use crate::WORDS;
+
+pub const MARKED: [u32; WORDS] = [
     4,
     0,
     0,

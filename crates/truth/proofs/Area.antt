@@ -5,8 +5,9 @@ use native.Mathlib.Nat.{mul-le-mul-right}
 use native.Mathlib.Decide.{decLt}
 use mathlib.Core.Path.{_≡_, refl, _∙_}
 use mathlib.Core.List.{List}
-use lib.ListN.{length, getD, set, drop, length-set}
-use lib.Seq.{getD-set-same, getD-set-other, drop-set-lt}
+use lib.ListN.{length, getD, set, length-set}
+use lib.Seq.{getD-set-same, getD-set-other}
+use Rattle.paper.specs.Slice.{Untouched}
 use Rattle.paper.proofs.Count.{below-all}
 use Rattle.truth.specs.Table.{Stored}
 
@@ -38,10 +39,10 @@ pub record Storing (n v k : ℕ) (column before after : List ℕ) : Type 0 where
   pub size : length after ≡ length before
   pub here : (u : ℕ) → u < k → getD after (u * n + v) 0 ≡ getD column u 0
   pub others : (u w : ℕ) → w < n → (w ≡ v → ⊥) → getD after (u * n + w) 0 ≡ getD before (u * n + w) 0
-  pub rest : drop (n * n) after ≡ drop (n * n) before
+  pub rest : Untouched (n * n) before after
 
 pub storing-none : (n v : ℕ) (column l : List ℕ) → Storing n v 0 column l l
-storing-none n v column l = record { size = refl; here = λ u p. absurd (omega arith); others = λ u w p ne. refl; rest = refl }
+storing-none n v column l = record { size = refl; here = λ u p. absurd (omega arith); others = λ u w p ne. refl; rest = λ i p. refl }
 
 pub storing-more : (n v k : ℕ) (column before after : List ℕ) → v < n → k < n → n * n ≤ length after → Storing n v k column before after
     → Storing n v (k + 1) column before (set after (k * n + v) (getD column k 0))
@@ -49,7 +50,7 @@ storing-more n v k column before after hv hk fits S = record {
   size = simp length-set (S .size);
   here = λ u p. below-all (λ u. getD new (u * n + v) 0 ≡ getD column u 0) k old (getD-set-same after at x 0 (omega (arith, room))) u (omega arith);
   others = λ u w p ne. getD-set-other after at (u * n + w) x 0 (columns-differ n u k w v p hv ne) ∙ S .others u w p ne;
-  rest = drop-set-lt (n * n) after at x room ∙ S .rest;
+  rest = λ i p. getD-set-other after at i x 0 (λ e. omega (arith, room)) ∙ S .rest i p;
 }
   where
     at : ℕ

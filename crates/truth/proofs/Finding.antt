@@ -8,7 +8,7 @@ use mathlib.Core.List.{List}
 use lib.Dec.{ltb, eqb}
 use lib.ListN.{getD}
 use borrow.Author.Tests.{ltb-true, ltb-false, lt-ltb, le-ltb, eqb-true, eqb-false}
-use Rattle.paper.specs.Test.{every, due}
+use Rattle.paper.specs.Test.{due}
 use Rattle.paper.specs.Map.{Map}
 use Rattle.paper.specs.Truth.{Used}
 use Rattle.paper.specs.Verdict.{fault, useful, verdict}
@@ -20,8 +20,23 @@ use Rattle.paper.proofs.Verdict.{used-of, verdict-zero, fault-same}
 use Rattle.paper.proofs.Due.{verdict-pair-due, verdict-15}
 use Rattle.truth.proofs.Scans.{every-not}
 use Rattle.truth.specs.declared.pairs.Fault.{Fault}
-use Rattle.truth.specs.Table.{used}
-use Rattle.truth.specs.Faults.{Looked, Due, Found, Marks, numberOf}
+use Rattle.truth.specs.Table.{used, allUsed}
+use Rattle.truth.specs.Faults.{Looked, numberOf}
+use Rattle.truth.proofs.Marking.{Marks}
+
+-- number is due for u and some v below k, and nothing for u and a place before v
+pub record Due (m : Map) (d : ℕ → ℕ → ℕ) (k u number : ℕ) : Type 0 where
+  pub column : ℕ
+  pub under : column < k
+  pub number-is : fault m d u column ≡ number
+  pub some : 0 < number
+  pub first : (v : ℕ) → v < column → fault m d u v ≡ 0
+
+-- over the first k columns of a table d of road distances: nothing is due for the places before the fault's, and for that place its number
+pub record Found (m : Map) (d : ℕ → ℕ → ℕ) (k : ℕ) (f : Fault) : Type 0 where
+  pub within : f .place ≤ m .places
+  pub clean : (u v : ℕ) → u < f .place → v < k → fault m d u v ≡ 0
+  pub due : f .place < m .places → Due m d k (f .place) (f .number)
 
 pub looked-down : (f : ℕ → ℕ) (old new : Fault) → Looked f old new → new .place ≤ old .place
 looked-down f old new S = ⊎-elim (λ e. omega (arith, ap (λ (f : Fault). f .place) e)) (λ w. omega arith) (S .found)
@@ -83,7 +98,7 @@ module _ {m : Map} (L : LaidOut m) where
       useful-marked : (b : ℕ) → b < m .blocks → Used m b → getD l b 0 ≡ used
       useful-marked b p U =
           let u : ℕ = m .owner b in
-          M .whole u (U .place) b (omega (arith, L .owners b p)) (U .under) (λ e. U .other (sym e)) (block-is L u (U .place) b p (U .covered))
+          M .whole u (U .place) b (omega (arith, L .ground .owners b p)) (U .under) (λ e. U .other (sym e)) (block-is (L .ground) u (U .place) b p (U .covered))
 
       unmarked-useless : (b : ℕ) → b < m .blocks → (getD l b 0 ≡ used → ⊥) → useful m b ≡ false
       unmarked-useless b p ne = go (useful m b) refl
@@ -92,7 +107,7 @@ module _ {m : Map} (L : LaidOut m) where
           go true e = absurd (ne (useful-marked b p (used-of m b e)))
           go false e = e
 
-      by-marks : (t : Bool) → every (m .blocks) (λ b. eqb (getD l b 0) used) ≡ t → verdict m d ≡ due t 15
+      by-marks : (t : Bool) → allUsed (m .blocks) l ≡ t → verdict m d ≡ due t 15
       by-marks true e = verdict-zero m d all-clean (λ b p. M .sound b p (eqb-true _ _ (every-true (m .blocks) (λ b. eqb (getD l b 0) used) e b p)))
       by-marks false e =
           let (b, p, q) = every-not (m .blocks) (λ b. eqb (getD l b 0) used) e in
@@ -102,9 +117,9 @@ module _ {m : Map} (L : LaidOut m) where
     unfolding numberOf
     number-is = go (ltb (f .place) (m .places)) refl
       where
-        go : (t : Bool) → ltb (f .place) (m .places) ≡ t → elim t [ true ↦ f .number | false ↦ due (every (m .blocks) (λ b. eqb (getD l b 0) used)) 15 ] ≡ verdict m d
+        go : (t : Bool) → ltb (f .place) (m .places) ≡ t → elim t [ true ↦ f .number | false ↦ due (allUsed (m .blocks) l) 15 ] ≡ verdict m d
         go true e = sym (by-fault (ltb-true _ _ e))
-        go false e = sym (by-marks (ltb-false _ _ e) (every (m .blocks) (λ b. eqb (getD l b 0) used)) refl)
+        go false e = sym (by-marks (ltb-false _ _ e) (allUsed (m .blocks) l) refl)
 
 -- the number, test by test
 module _ (places blocks : ℕ) (l : List ℕ) (f : Fault) where
@@ -112,6 +127,6 @@ module _ (places blocks : ℕ) (l : List ℕ) (f : Fault) where
   unfolding numberOf
   number-fault h = rw (lt-ltb (f .place) places h, numberOf)
 
-  pub number-marks : places ≤ f .place → (t : Bool) → t ≡ every blocks (λ b. eqb (getD l b 0) used) → due t 15 ≡ numberOf places blocks l f
+  pub number-marks : places ≤ f .place → (t : Bool) → t ≡ allUsed blocks l → due t 15 ≡ numberOf places blocks l f
   unfolding numberOf
   number-marks h t e = rw (le-ltb (f .place) places h, numberOf) (ap (λ (x : Bool). due x 15) e)

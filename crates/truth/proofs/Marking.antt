@@ -3,19 +3,27 @@ use Prim.Native.Nat.{ℕ, zero, suc, _+_, _≤_, _<_, min}
 use native.Mathlib.Omega.{arith}
 use native.Mathlib.Decide.{ℕ-discrete}
 use mathlib.Core.Path.{_≡_, refl, sym, ap, subst, _∙_}
-use mathlib.Core.Bool.{true}
+use mathlib.Core.Bool.{true, false}
 use mathlib.Core.Option.{Option, some, none}
 use mathlib.Core.List.{List}
+use lib.Dec.{eqb}
 use lib.ListN.{length, getD, set, length-set}
 use lib.Seq.{getD-set-same, getD-set-other}
 use borrow.Author.Tests.{eq-eqb, ne-eqb}
 use Rattle.paper.specs.Map.{Map}
 use Rattle.paper.specs.Block.{covers, blockOf}
 use Rattle.paper.specs.Truth.{Used}
+use Rattle.paper.specs.Ground.{SameGround}
 use Rattle.paper.proofs.Block.{BlockOf, block-of}
 use Rattle.paper.proofs.Count.{below-suc}
+use Rattle.paper.proofs.Ground.{block-same}
 use Rattle.truth.specs.Table.{used, markedBy, marked, markedBelow}
-use Rattle.truth.specs.Faults.{Marks}
+
+-- a marked block covers some place other than its own, and the block of each pair of the first k columns, up to a place, is marked
+pub record Marks (m : Map) (k place : ℕ) (l : List ℕ) : Type 0 where
+  pub long : m .blocks ≤ length l
+  pub sound : (b : ℕ) → b < m .blocks → getD l b 0 ≡ used → Used m b
+  pub whole : (u v b : ℕ) → u < place → v < k → (u ≡ v → ⊥) → blockOf m u v ≡ some b → getD l b 0 ≡ used
 
 module _ (m : Map) (u v : ℕ) (l : List ℕ) where
   pub marked-self : u ≡ v → marked m u v l ≡ l
@@ -88,6 +96,17 @@ module _ (m : Map) (v : ℕ) (l : List ℕ) where
       let B : BlockOf m u v (m .blocks) b = block-of m u v b e in
       record { place = v; under = hv; other = λ z. ne (sym (B .owner) ∙ sym z); covered = subst (λ (w : ℕ). covers m w v b ≡ true) (sym (B .owner)) (B .covered) })
       h
+
+-- maps with one ground have the same marks
+module _ {m g : Map} (S : SameGround m g) (v : ℕ) (p : v < m .places) where
+  mark-same : (u : ℕ) (l : List ℕ) → marked m u v l ≡ marked g u v l
+  unfolding marked
+  mark-same u l = ap (λ (r : Option ℕ). elim (eqb u v) as (λ _. List ℕ) [ true ↦ l | false ↦ markedBy l r ]) (block-same S u v p)
+
+  pub marks-same : (k : ℕ) (l : List ℕ) → markedBelow g v k l ≡ markedBelow m v k l
+  unfolding markedBelow
+  marks-same zero l = refl
+  marks-same (suc u) l = sym (mark-same u (markedBelow g v u l)) ∙ ap (marked m u v) (marks-same u l)
 
 pub marks-none : (m : Map) (place : ℕ) (l : List ℕ) → m .blocks ≤ length l → ((b : ℕ) → getD l b 0 ≡ 0) → Marks m 0 place l
 marks-none m place l p z = record { long = p; sound = λ b q h. absurd (omega (arith, z b)); whole = λ u v b q r. absurd (omega arith) }

@@ -2,16 +2,18 @@
 use Prim.Native.Nat.{ℕ, zero, suc, _+_, _<_}
 use native.Mathlib.Omega.{arith}
 use native.Mathlib.Numerals.{add-one}
-use mathlib.Core.Path.{_≡_, refl}
-use mathlib.Core.Bool.{Bool, true, false}
+use mathlib.Core.Path.{_≡_, refl, sym, _∙_}
+use mathlib.Core.Bool.{Bool, true, false, not}
+use mathlib.Core.List.{List}
 use lib.Dec.{eqb}
 use lib.ListN.{getD, replicate}
-use borrow.Author.Tests.{eqb-true, eq-eqb}
+use borrow.Author.Tests.{eqb-true, eq-eqb, not-true, not-false}
 use Rattle.paper.specs.Test.{both, every, any}
 use Rattle.paper.specs.Map.{Map}
 use Rattle.paper.specs.Road.{Road, IsD}
 use Rattle.paper.proofs.Test.{true-false, any-true, any-of, both-true}
 use Rattle.roads.specs.Towards.{far, Towards}
+use Rattle.truth.specs.Roads.{Reached}
 
 -- a test that fails somewhere
 pub every-not : (n : ℕ) (f : ℕ → Bool) → every n f ≡ false → (i : ℕ) × (i < n) × (f i ≡ false)
@@ -33,19 +35,22 @@ pub any-more : (n : ℕ) (f : ℕ → Bool) → any n f ≡ false → f n ≡ fa
 unfolding any
 any-more n f h q = rw (add-one, h) q
 
--- some place has no road to v, or the column holds the distances to v
-module _ (m : Map) (n v : ℕ) (t : ℕ → ℕ) (T : Towards m n v t) where
-  abbrev is-far : ℕ → Bool
-  is-far u = eqb (t u) far
+-- the look through a column tells whether each place has a road to v
+pub reached : (m : Map) (n v : ℕ) (column : List ℕ) → Towards m n v (λ u. getD column u 0) → (cut : Bool) → cut ≡ any n (λ u. eqb (getD column u 0) far)
+    → Reached m n v column (not cut)
+reached m n v column T cut e = record { all = λ h. near (sym e ∙ not-true cut h); not-all = λ h. none (sym e ∙ not-false cut h) }
+  where
+    is-far : ℕ → Bool
+    is-far u = eqb (getD column u 0) far
 
-  pub cut-off : any n is-far ≡ true → (u : ℕ) × (u < n) × ((l : ℕ) → Road m v u l → ⊥)
-  cut-off h = let (u, p, e) = any-true n is-far h in (u, p, T .none u p (eqb-true _ _ e))
+    none : any n is-far ≡ true → (u : ℕ) × (u < n) × ((l : ℕ) → Road m v u l → ⊥)
+    none h = let (u, p, e) = any-true n is-far h in (u, p, T .none u p (eqb-true _ _ e))
 
-  pub all-near : any n is-far ≡ false → (u : ℕ) → u < n → IsD m u v (t u)
-  all-near h u p = T .near u p (omega (arith, T .low u p, not-far))
-    where
-      not-far : t u ≡ far → ⊥
-      not-far e = true-false (any-of n is-far u p (eq-eqb (t u) far e)) h
+    not-far : any n is-far ≡ false → (u : ℕ) → u < n → getD column u 0 ≡ far → ⊥
+    not-far h u p e = true-false (any-of n is-far u p (eq-eqb (getD column u 0) far e)) h
+
+    near : any n is-far ≡ false → (u : ℕ) → u < n → IsD m u v (getD column u 0)
+    near h u p = T .near u p (omega (arith, T .low u p, not-far h u p))
 
 -- every word of a slice of zeros is 0, past its end too
 pub zeros : (n i : ℕ) → _≡_ {A = ℕ} (getD (replicate n 0) i 0) 0

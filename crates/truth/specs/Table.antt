@@ -1,11 +1,13 @@
 -- The lent slice and the marks of blocks, while the columns are gone through.
 use Prim.Native.Nat.{ℕ, zero, suc, _+_, _*_, _<_}
 use mathlib.Core.Path.{_≡_}
-use mathlib.Core.Bool.{true, false}
+use mathlib.Core.Bool.{Bool, true, false}
 use mathlib.Core.Option.{Option, some, none}
 use mathlib.Core.List.{List}
 use lib.Dec.{eqb}
-use lib.ListN.{length, getD, set, drop}
+use lib.ListN.{length, getD, set}
+use Rattle.paper.specs.Test.{every}
+use Rattle.paper.specs.Slice.{Untouched}
 use Rattle.paper.specs.Map.{Map}
 use Rattle.paper.specs.Block.{blockOf}
 
@@ -14,11 +16,15 @@ pub record Stored (n v : ℕ) (column before after : List ℕ) : Type 0 where
   pub size : length after ≡ length before
   pub here : (u : ℕ) → u < n → getD after (u * n + v) 0 ≡ getD column u 0
   pub others : (u w : ℕ) → u < n → w < n → (w ≡ v → ⊥) → getD after (u * n + w) 0 ≡ getD before (u * n + w) 0
-  pub rest : drop (n * n) after ≡ drop (n * n) before
+  pub rest : Untouched (n * n) before after
 
 -- the mark of a block that some pair uses
 abbrev pub used : ℕ
 used = 1
+
+-- each of the first n blocks is marked
+abbrev pub allUsed : ℕ → List ℕ → Bool
+allUsed n l = every n (λ b. eqb (getD l b 0) used)
 
 abbrev pub markedBy : List ℕ → Option ℕ → List ℕ
 markedBy l none = l

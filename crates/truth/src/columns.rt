@@ -1,22 +1,41 @@
 // The check, column by column: the road distances to each place, and the pairs that it ends.
 use crate::pairs::Fault;
 use crate::pairs::column_fault;
-use crate::sizes::MOST_BLOCKS;
-use crate::sizes::MOST_PLACES;
 use crate::slices::all_marked;
 use crate::slices::clear;
 use crate::slices::is_cut_off;
 use crate::slices::store_column;
 use paper::Counts;
+use paper::sizes::MOST_BLOCKS;
+use paper::sizes::MOST_PLACES;
 use roads::towards;
 ghost use mathlib.Core.Path.{_≡_};
-ghost use Prim.Native.Nat.{_*_, _≤_};
+ghost use Prim.Native.Nat.{_*_, _≤_, _<_};
 ghost use lib.ListN.{length};
-ghost use Rattle.paper.specs.Sheet.{mapOf};
-ghost use Rattle.paper.specs.Verdict.{Checked};
-ghost use Rattle.quadtree.specs.Ready.{Ready, Leads};
+ghost use Rattle.paper.specs.Map.{Map};
+ghost use Rattle.paper.specs.Verdict.{CheckedOn};
+ghost use Rattle.sheet.specs.Ground.{Ground};
+ghost use Rattle.roads.specs.Towards.{Ready, Entered};
 ghost use Rattle.truth.specs.Faults.{numberOf};
-ghost use Rattle.truth.specs.Roads.{Roads};
+ghost use Rattle.truth.specs.Roads.{Roads, Reached, Surveyed, Survey};
+
+// Whether v can be reached from every place; if so, the column holds the road distances to v.
+fn is_reached(
+    tails: &[u32],
+    lengths: &[u32],
+    last: &[u32],
+    previous: &[u32],
+    places: usize,
+    v: usize,
+    column: &mut [u32],
+) -> bool
+    requires { ⌜ (Ready (now tails) (now lengths) (now previous) places) × (Entered (now last) places (length (now tails))) ⌝ }
+    requires { ⌜ (v < places) × (places ≤ length (now column)) ⌝ }
+    ensures { λ r. ⌜ ((m : Map) → Roads m places (now (tails .entry)) (now (lengths .entry)) (now (last .entry)) (now (previous .entry)) → Reached m places v (now (column .exit)) r) ⌝ }
+{
+    towards(tails, lengths, last, previous, places, v, column);
+    !is_cut_off(column, places)
+}
 
 // The number once all pairs are gone through: the fault's, then 15 for a block that no pair marked.
 fn final_number(marks: &[u8], places: usize, blocks: usize, fault: Fault) -> u32
@@ -32,9 +51,9 @@ fn final_number(marks: &[u8], places: usize, blocks: usize, fault: Fault) -> u32
     0
 }
 
-// Fills the table a column at a time, and judges the pairs of each. It ends at a place that some other cannot reach (11).
+// Fills the table a column at a time, and judges the pairs of each, on any map that was surveyed. It ends at a place that some other cannot reach (11).
 pub fn columns(
-    sheet: &[u8],
+    ground: &[u8],
     counts: Counts,
     first: &[u32],
     tails: &[u32],
@@ -44,28 +63,22 @@ pub fn columns(
     previous: &[u32],
     distances: &mut [u32],
 ) -> u32
-    requires { ⌜ Ready (now sheet) counts ⌝ }
-    requires { ⌜ Leads (mapOf (now sheet)) (now first) (now heads) (now lengths) ⌝ }
-    requires { ⌜ Roads (mapOf (now sheet)) (counts .places) (now tails) (now lengths) (now last) (now previous) ⌝ }
-    requires { ⌜ counts .places * counts .places ≤ length (now distances) ⌝ }
-    ensures { λ r. ⌜ Checked (now (sheet .entry)) (now (distances .entry)) r (now (distances .exit)) ⌝ }
+    requires { ⌜ (Ground (now ground) counts) × (counts .places * counts .places ≤ length (now distances)) ⌝ }
+    requires { ⌜ Survey (now ground) (now first) (now tails) (now heads) (now lengths) (now last) (now previous) ⌝ }
+    ensures { λ r. ⌜ ((m : Map) → Surveyed (now (ground .entry)) (now (first .entry)) (now (tails .entry)) (now (heads .entry)) (now (lengths .entry)) (now (last .entry)) (now (previous .entry)) m → CheckedOn 0 m (now (distances .entry)) r (now (distances .exit))) ⌝ }
 {
     let places = counts.places;
     let mut marks = [0u8; MOST_BLOCKS];
     let mut column = [0u32; MOST_PLACES];
-    let mut fault = Fault {
-        place: places,
-        number: 0,
-    };
+    let mut fault = Fault::none(places);
     for v in 0..places {
-        towards(tails, lengths, last, previous, places, v, &mut column);
-        if is_cut_off(&column, places) {
+        if !is_reached(tails, lengths, last, previous, places, v, &mut column) {
             clear(distances, places * places);
             return 11;
         }
         store_column(distances, places, v, &column);
         fault = column_fault(
-            sheet,
+            ground,
             counts,
             first,
             heads,

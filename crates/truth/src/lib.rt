@@ -1,13 +1,12 @@
 // The check: whether a sheet tells the truth about its roads, and the road distances between all its places.
 mod columns;
 mod pairs;
-mod sizes;
 mod slices;
 
 use crate::columns::columns;
-use crate::sizes::MOST_PLACES;
-use crate::sizes::MOST_STAGES;
 use paper::Counts;
+use paper::sizes::MOST_PLACES;
+use paper::sizes::MOST_STAGES;
 use roads::chain;
 use sheet::Laid;
 use sheet::layout;
@@ -17,14 +16,14 @@ ghost use mathlib.Core.Logic.{_↔_};
 ghost use Prim.Native.Nat.{_*_, _≤_};
 ghost use lib.ListN.{length};
 ghost use Rattle.paper.specs.Sheet.{mapOf};
-ghost use Rattle.paper.specs.Verdict.{area, Checked, Accepted};
-ghost use Rattle.quadtree.specs.Ready.{Ready};
+ghost use Rattle.paper.specs.Verdict.{area, CheckedOn, Checked, Accepted};
+ghost use Rattle.sheet.specs.Ground.{Mapped};
 
-// The check of a sheet that is laid out, with a slice that is long enough: the road book, its chains, and then column after column.
-fn survey(sheet: &[u8], counts: Counts, distances: &mut [u32]) -> u32
-    requires { ⌜ Ready (now sheet) counts ⌝ }
+// The check of a map that is read off the bytes, with a slice that is long enough: the road book, its chains, and then column after column.
+fn survey(ground: &[u8], counts: Counts, distances: &mut [u32]) -> u32
+    requires { ⌜ Mapped (now ground) counts ⌝ }
     requires { ⌜ counts .places * counts .places ≤ length (now distances) ⌝ }
-    ensures { λ r. ⌜ Checked (now (sheet .entry)) (now (distances .entry)) r (now (distances .exit)) ⌝ }
+    ensures { λ r. ⌜ CheckedOn 0 (mapOf (now (ground .entry))) (now (distances .entry)) r (now (distances .exit)) ⌝ }
 {
     let places = counts.places;
     let stages = counts.stages;
@@ -33,7 +32,7 @@ fn survey(sheet: &[u8], counts: Counts, distances: &mut [u32]) -> u32
     let mut heads = [0u32; MOST_STAGES];
     let mut lengths = [0u32; MOST_STAGES];
     road_book(
-        sheet,
+        ground,
         counts,
         &mut first,
         &mut tails,
@@ -44,7 +43,7 @@ fn survey(sheet: &[u8], counts: Counts, distances: &mut [u32]) -> u32
     let mut previous = [0u32; MOST_STAGES];
     chain(&heads[..stages], places, &mut last, &mut previous);
     columns(
-        sheet,
+        ground,
         counts,
         &first,
         &tails[..stages],
@@ -56,16 +55,16 @@ fn survey(sheet: &[u8], counts: Counts, distances: &mut [u32]) -> u32
     )
 }
 
-// The check of a sheet that is laid out: 10, or what the roads and the blocks come to.
-fn judge(sheet: &[u8], counts: Counts, distances: &mut [u32]) -> u32
-    requires { ⌜ Ready (now sheet) counts ⌝ }
-    ensures { λ r. ⌜ Checked (now (sheet .entry)) (now (distances .entry)) r (now (distances .exit)) ⌝ }
+// The check of a map that is read off the bytes: 10, or what the roads and the blocks come to.
+fn judge(ground: &[u8], counts: Counts, distances: &mut [u32]) -> u32
+    requires { ⌜ Mapped (now ground) counts ⌝ }
+    ensures { λ r. ⌜ CheckedOn 0 (mapOf (now (ground .entry))) (now (distances .entry)) r (now (distances .exit)) ⌝ }
 {
     let places = counts.places;
     if distances.len() < places * places {
         return 10;
     }
-    survey(sheet, counts, distances)
+    survey(ground, counts, distances)
 }
 
 // 0 for a sheet that is laid out and tells the truth, and else the first of 1 to 6 and 10 to 15 that is due. After 0 and after 12 to 15

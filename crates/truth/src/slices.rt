@@ -1,16 +1,14 @@
 // What is written to the lent slice, and two looks: through a column for a place with no road, through the marks for a block without one.
+use roads::FAR;
 ghost use mathlib.Core.Path.{_≡_};
 ghost use Prim.Native.Nat.{_*_, _≤_, _<_};
 ghost use lib.Dec.{eqb};
 ghost use lib.ListN.{length, getD};
 ghost use Rattle.paper.specs.Sizes.{mostPlaces};
-ghost use Rattle.paper.specs.Test.{every, any};
+ghost use Rattle.paper.specs.Test.{any};
 ghost use Rattle.paper.specs.Slice.{cleared};
 ghost use Rattle.roads.specs.Towards.{far};
-ghost use Rattle.truth.specs.Table.{Stored, used};
-
-// What `roads::towards` leaves for a place with no road.
-const FAR: u32 = 2147483647;
+ghost use Rattle.truth.specs.Table.{Stored, allUsed};
 
 // The mark of a block that some pair uses.
 pub const USED: u8 = 1;
@@ -51,7 +49,7 @@ pub fn is_cut_off(column: &[u32], n: usize) -> bool
 // Whether each of the n blocks is marked.
 pub fn all_marked(marks: &[u8], n: usize) -> bool
     requires { ⌜ n ≤ length (now marks) ⌝ }
-    ensures { λ r. ⌜ r ≡ every n (λ b. eqb (getD (now (marks .entry)) b 0) used) ⌝ }
+    ensures { λ r. ⌜ r ≡ allUsed n (now (marks .entry)) ⌝ }
 {
     for b in 0..n {
         if marks[b] != USED {

@@ -1,16 +1,59 @@
 -- `nearest::ask` meets its contract.
-use mathlib.Core.Path.{ap, _∙_}
+use mathlib.Core.Path.{_≡_, ap, subst, _∙_}
+use Prim.Native.Nat.{_*_, _≤_}
 use native.Mathlib.Omega.{arith}
+use lib.ListN.{length}
 use borrow.Author.Needs.{needs}
-use Rattle.quadtree.proofs.Words.{standing}
+use Rattle.paper.specs.Sizes.{slotWords}
+use Rattle.paper.specs.Sheet.{mapOf, officesIn}
+use Rattle.paper.specs.Quest.{outward}
+use Rattle.paper.specs.Listing.{listing}
+use Rattle.paper.proofs.Reply.{Allowed}
+use Rattle.sheet.proofs.Grounds.{roll-count}
 use Rattle.nearest.specs.declared.Reply as code
+use Rattle.nearest.specs.declared.walk.Walked.{Walked}
+use Rattle.nearest.specs.Going.{Came}
 use Rattle.nearest.specs.Question.{replied}
 use Rattle.nearest.proofs.Asking.{ask-invalid, ask-allowed, ask-works, ask-done, ask-refused}
 use Rattle.nearest.proofs.ask.Statement.{statement}
 use Rattle.nearest.proofs.ask.Tie as tie
 
+-- the places, each by the one before it
+abbrev begin : tie.After-invalid → tie.Start
+begin c = c .before .before .before .before .before .before .before
+
+abbrev valid : tie.After-walk-mapped → tie.Else1
+valid c = c .before .before .before
+
+abbrev walked : tie.After-clear → tie.After-walk-mapped
+walked c = c .before .before .before .before .before .before .before
+
+abbrev cleared : tie.After-known-told2 → tie.After-clear
+cleared c = c .before .before .before .before .before
+
+-- the counts are those of the map and of the list
+places : (s : tie.Start) → s .args .counts .places ≡ mapOf (s .args .ground .now) .places
+places s = s .pre .0 .parts .places
+
+offices : (s : tie.Start) → s .args .counts .offices ≡ officesIn (s .args .list .now) .count
+offices s = roll-count (s .pre .1)
+
+-- a question that is valid: what the walk needs
+allowed : (c : tie.Else1) → let s = begin (c .before) in Allowed (mapOf (s .args .ground .now)) (officesIn (s .args .list .now)) (s .args .q) (s .args .k) (s .args .answer .now) (s .args .working .now)
+allowed c = let s = begin (c .before) in ask-allowed _ _ _ _ (places s) (offices s) _ _ _ _ _ (c .before .invalid .ensures) (c .if1 .left)
+
+works : (c : tie.Else1) → let s = begin (c .before) in slotWords * s .args .counts .offices ≤ length (s .args .working .now)
+works c = let s = begin (c .before) in ask-works (mapOf (s .args .ground .now)) (officesIn (s .args .list .now)) _ _ (places s) (offices s) _ _ _ _ _ (c .before .invalid .ensures) (c .if1 .left)
+
+-- how the walk ended
+ended : (c : tie.After-walk-mapped) → let s = begin (valid c .before) in (r : Walked) → c .walk-mapped .result ≡ r
+    → Came (s .args .k) (listing (mapOf (s .args .ground .now)) (outward (officesIn (s .args .list .now)) (s .args .q)) (s .args .k)) (s .args .answer .now) (c .walk-mapped .last .1 .1 .1 .1 .1 .0) r
+ended c r e =
+    let s = begin (valid c .before) in
+    subst (Came (s .args .k) (listing (mapOf (s .args .ground .now)) (outward (officesIn (s .args .list .now)) (s .args .q)) (s .args .k)) (s .args .answer .now) (c .walk-mapped .last .1 .1 .1 .1 .1 .0)) e (c .walk-mapped .ensures .1)
+
 invalid-requires : tie.Need-invalid-requires
-invalid-requires c κs = standing (c .before .before .before .before .before .pre) .within
+invalid-requires c κs = c .before .before .before .before .before .before .pre .1 .few
 
 refused-requires : tie.Need-refused-requires
 refused-requires c κs = search needs
@@ -24,25 +67,22 @@ same-length-2 c = search needs
 returns : tie.Need-returns
 returns c =
     let v = c .before .before in
-    let s = v .before .before .before .before .before .before in
-    ap (λ (r : code.Reply). replied r (s .args .answer .now) (s .args .working .now)) (c .refused .ensures) ∙ ask-invalid (s .pre) _ _ _ _ _ (v .invalid .ensures) (c .before .if1 .taken)
+    let s = begin v in
+    ap (λ (r : code.Reply). replied r (s .args .answer .now) (s .args .working .now)) (c .refused .ensures)
+    ∙ ask-invalid _ _ _ _ (places s) (offices s) _ _ _ _ _ (v .invalid .ensures) (c .before .if1 .taken)
 
-walk-requires : tie.Need-walk-requires
-walk-requires c κs =
-    let v = c .before .before .before in
-    let s = v .before .before .before .before .before .before in
-    let A = ask-allowed (s .pre) _ _ _ _ _ (v .invalid .ensures) (c .before .before .if1 .left) in
-    let R = standing (s .pre) in
-    (s .pre, (omega (arith, A .place, R .places), A .one, omega (arith, A .enough, R .offices), A .answers, omega (arith, A .works, R .offices)))
+walk-mapped-requires : tie.Need-walk-mapped-requires
+walk-mapped-requires c κs =
+    let v = c .before .before in
+    let s = begin (v .before) in
+    let A = allowed v in
+    (s .pre .0, (s .pre .1, omega (arith, A .place, places s), A .one, omega (arith, A .enough, offices s), A .answers, works v))
 
 mul-clear : tie.Need-mul-clear
-mul-clear c = let s = c .before .before .before .before .before .before .before .before .before .before .before .before .before .before .before .before in omega (arith, standing (s .pre) .within .offices)
+mul-clear c = let s = begin (valid (c .before .before .before .before .before .before) .before) in omega (arith, s .pre .1 .few)
 
 clear-requires : tie.Need-clear-requires
-clear-requires c κs =
-    let v = c .before .before .before .before .before .before .before .before .before .before in
-    let s = v .before .before .before .before .before .before in
-    omega (arith, ask-works (s .pre) _ _ _ _ _ (v .invalid .ensures) (c .before .before .before .before .before .before .before .before .before .if1 .left), c .before .before .before .before .before .before .walk .ensures .0 .long)
+clear-requires c κs = let w = c .before .before .before .before .before .before in omega (arith, works (valid w), w .walk-mapped .ensures .0 .long)
 
 enum-known-ended : tie.Need-enum-known-ended
 enum-known-ended c = search needs
@@ -55,11 +95,9 @@ mul-clear-2 c = search needs
 
 clear-requires-2 : tie.Need-clear-requires-2
 clear-requires-2 c κs =
-    let v = c .before .before .before .before .before .before .before .before .before .before .before .before .before .before .before .before .before in
-    let s = v .before .before .before .before .before .before in
-    let e = c .before .before .before .before .before .before .before .before .before .before .before .before .before .walk .ensures .1 in
-    let E = rw (c .before .before .ended2 .given .1) at e in
-    omega (arith, ask-allowed (s .pre) _ _ _ _ _ (v .invalid .ensures) (c .before .before .before .before .before .before .before .before .before .before .before .before .before .before .before .before .if1 .left) .answers, E .1 .long)
+    let t = c .before in
+    let w = walked (cleared t) in
+    omega (arith, allowed (valid w) .answers, ended w _ (t .before .ended2 .given .1) .1 .long)
 
 refused-requires-2 : tie.Need-refused-requires-2
 refused-requires-2 c κs = search needs
@@ -72,12 +110,12 @@ same-length-4 c = search needs
 
 returns-2 : tie.Need-returns-2
 returns-2 c =
-    let v = c .before .before .before .before .before .before .before .before .before .before .before .before .before .before .before .before in
-    let s = v .before .before .before .before .before .before in
-    let x = c .before .before .before .before .before .before .before .before .before .before .before .before in
-    let e = x .walk .ensures .1 in
-    let E = rw (c .before .ended .given .1) at e in
-    ask-done (s .pre) _ _ _ _ _ (v .invalid .ensures) (c .before .before .before .before .before .before .before .before .before .before .before .before .before .before .before .if1 .left) _ _ (x .walk .ensures .0) (c .before .before .before .before .before .clear .ensures) (E .0) _ _ (E .1) (E .2) (E .3)
+    let k = c .before .before .before .before .before in
+    let w = walked k in
+    let v = valid w in
+    let s = begin (v .before) in
+    let E = ended w _ (c .before .ended .given .1) in
+    ask-done _ _ _ _ (places s) (offices s) _ _ _ _ _ (v .before .invalid .ensures) (v .if1 .left) _ _ (w .walk-mapped .ensures .0) (k .clear .ensures) (E .0) _ _ (E .1) (E .2) (E .3)
 
 same-length-5 : tie.Need-same-length-5
 same-length-5 c = search needs
@@ -87,12 +125,15 @@ same-length-6 c = search needs
 
 returns-3 : tie.Need-returns-3
 returns-3 c =
-    let v = c .before .before .before .before .before .before .before .before .before .before .before .before .before .before .before .before .before .before .before .before .before in
-    let s = v .before .before .before .before .before .before in
-    let x = c .before .before .before .before .before .before .before .before .before .before .before .before .before .before .before .before .before in
-    let e = x .walk .ensures .1 in
-    let E = rw (c .before .before .before .before .before .before .ended2 .given .1) at e in
-    ap (λ (r : code.Reply). replied r (c .before .before .before .clear2 .last .0) (c .before .before .before .before .before .before .before .before .before .before .clear .last .0)) (c .refused2 .ensures) ∙ ask-refused (s .pre) _ _ _ _ _ (v .invalid .ensures) (c .before .before .before .before .before .before .before .before .before .before .before .before .before .before .before .before .before .before .before .before .if1 .left) _ _ (x .walk .ensures .0) (c .before .before .before .before .before .before .before .before .before .before .clear .ensures) _ _ _ (E .0) (E .1) (c .before .before .before .clear2 .ensures)
+    let a = c .before .before .before in
+    let t = a .before .before in
+    let k = cleared t in
+    let w = walked k in
+    let v = valid w in
+    let s = begin (v .before) in
+    let E = ended w _ (t .before .ended2 .given .1) in
+    ap (λ (r : code.Reply). replied r (a .clear2 .last .0) (k .clear .last .0)) (c .refused2 .ensures)
+    ∙ ask-refused _ _ _ _ (places s) (offices s) _ _ _ _ _ (v .before .invalid .ensures) (v .if1 .left) _ _ (w .walk-mapped .ensures .0) (k .clear .ensures) _ _ _ (E .0) (E .1) (a .clear2 .ensures)
 
 pub ask-spec : {M : Type 1} → statement M
 ask-spec =
@@ -103,7 +144,7 @@ ask-spec =
     same-length
     same-length-2
     returns
-    walk-requires
+    walk-mapped-requires
     mul-clear
     clear-requires
     enum-known-ended

@@ -1,50 +1,75 @@
--- `sheet::road_book` meets its contract.
-use Prim.Native.Nat.{_≤_}
+-- `sheet::road_book` meets its contract: a column for the tails, heads and lengths, and then where the stages of each place begin.
+use mathlib.Core.Path.{_≡_}
+use Prim.Native.Nat.{_+_, _≤_}
 use native.Mathlib.Omega.{arith}
 use lib.ListN.{length}
 use borrow.Author.Needs.{needs}
+use Rattle.paper.specs.Sheet.{stagesAt}
 use Rattle.sheet.proofs.Booked.{tails-ascend, book-of}
-use Rattle.sheet.proofs.Room.{Room, room, sectioned}
+use Rattle.sheet.proofs.Room.{Room, room}
 use Rattle.sheet.proofs.road_book.Statement.{statement}
 use Rattle.sheet.proofs.road_book.Tie as tie
 
+-- the places, each by the one before it
+abbrev begin : tie.After-slice-known4 → tie.Start
+begin c = c .before .before .before .before .before
+
+abbrev at-tails : tie.After-column → tie.After-stages-at
+at-tails c = c .before .before
+
+abbrev at-heads : tie.After-slice-known5 → tie.After-column
+at-heads c = c .before .before
+
+abbrev at-lengths : tie.After-slice-known6 → tie.After-column2
+at-lengths c = c .before .before
+
+abbrev at-first : tie.After-starts-arg2 → tie.After-column3
+at-first c = c .before .before .before .before
+
 -- the counts as numbers of the map, and the sheet's length by them
 facts : (c : tie.Start) → Room (c .args .sheet .now) (c .args .counts)
-facts c = room _ _ (sectioned _ _ (c .pre .0 .0) (c .pre .0 .1))
+facts c = room _ _ (c .pre .0 .parts)
+
+-- where the first tail stands
+from : (c : tie.After-stages-at) → c .stages-at .result + 1 ≡ stagesAt (begin (c .before) .args .sheet .now) + 1
+from c = omega (arith, facts (begin (c .before)) .stages-at, c .stages-at .ensures)
 
 stages-at-requires : tie.Need-stages-at-requires
-stages-at-requires c κs = facts (c .before .before .before .before .before) .within
+stages-at-requires c κs = facts (begin c) .within
 
 add-at : tie.Need-add-at
-add-at c = omega (arith, facts (c .before .before .before .before .before .before) .within)
+add-at c = omega (arith, facts (begin (c .before)) .within)
 
 column-requires : tie.Need-column-requires
-column-requires c κs =
-    let R = facts (c .before .before .before .before .before .before .before) in
-    (R .within .stages, c .before .before .before .before .before .before .before .pre .1 .tail, λ i p. omega (arith, R))
+column-requires c κs = let s = begin (c .before .before) in let R = facts s in (R .within .stages, s .pre .1 .tail, λ i p. omega (arith, R))
 
 add-column : tie.Need-add-column
-add-column c = omega (arith, facts (c .before .before .before .before .before .before .before .before .before .before) .within, c .before .before .before .before .stages-at .ensures)
+add-column c = let d = at-tails (at-heads c) in omega (arith, facts (begin (d .before)) .within, d .stages-at .ensures)
 
 column-requires-2 : tie.Need-column-requires-2
 column-requires-2 c κs =
-    let R = facts (c .before .before .before .before .before .before .before .before .before .before .before) in
-    (R .within .stages, c .before .before .before .before .before .before .before .before .before .before .before .pre .1 .head, λ i p. omega (arith, R))
+    let s = begin (at-tails (at-heads (c .before)) .before) in
+    let R = facts s in
+    (R .within .stages, s .pre .1 .head, λ i p. omega (arith, R))
 
 add-column-2 : tie.Need-add-column-2
-add-column-2 c = omega (arith, facts (c .before .before .before .before .before .before .before .before .before .before .before .before .before .before) .within, c .before .before .before .before .before .before .before .before .stages-at .ensures)
+add-column-2 c = let d = at-tails (at-heads (at-lengths c .before .before)) in omega (arith, facts (begin (d .before)) .within, d .stages-at .ensures)
 
 column-requires-3 : tie.Need-column-requires-3
 column-requires-3 c κs =
-    let R = facts (c .before .before .before .before .before .before .before .before .before .before .before .before .before .before .before) in
-    (R .within .stages, c .before .before .before .before .before .before .before .before .before .before .before .before .before .before .before .pre .1 .furlongs, λ i p. omega (arith, R))
+    let s = begin (at-tails (at-heads (at-lengths (c .before) .before .before)) .before) in
+    let R = facts s in
+    (R .within .stages, s .pre .1 .furlongs, λ i p. omega (arith, R))
 
 starts-requires : tie.Need-starts-requires
 starts-requires c κs =
-    let s = c .before .before .before .before .before .before .before .before .before .before .before .before .before .before .before .before .before .before .before .before in
+    let h = at-lengths (at-first c .before .before) in
+    let t = at-heads (h .before .before) in
+    let d = at-tails t in
+    let s = begin (d .before) in
     let R = facts s in
-    let long : s .args .counts .stages ≤ length (c .before .before .before .before .before .before .before .before .before .before .before .before .column .last .1 .1 .1 .0) = omega (arith, s .pre .1 .tail, c .before .before .before .before .before .before .before .before .before .before .before .before .column .kept) in
-    ((long, R .within .stages, s .pre .1 .places, R .within .places), tails-ascend (s .args .sheet .now) (s .pre .0 .0) _ _ (R .stages) (omega (arith, R .stages-at, c .before .before .before .before .before .before .before .before .before .before .before .before .before .before .stages-at .ensures)) _ _ (c .before .before .before .before .before .before .before .before .before .before .before .before .column .ensures))
+    let long : s .args .counts .stages ≤ length (t .column .last .1 .1 .1 .0) = omega (arith, s .pre .1 .tail, t .column .kept) in
+    ((long, R .within .stages, s .pre .1 .places, R .within .places), tails-ascend (s .args .sheet .now) (s .pre .0 .stages) _ _ (R .stages) (from d) _ _ (t .column .ensures))
 
 same-length : tie.Need-same-length
 same-length c = search needs
@@ -60,14 +85,17 @@ same-length-4 c = search needs
 
 returns : tie.Need-returns
 returns c =
-    let s = c .before .before .before .before .before .before .before .before .before .before .before .before .before .before .before .before .before .before .before .before .before .before .before in
-    let R = facts s in
-    let T = c .before .before .before .before .before .before .before .before .before .before .before .before .before .before .before .column .ensures in
-    let H = c .before .before .before .before .before .before .before .before .before .before .before .column2 .ensures in
-    let L = c .before .before .before .before .before .before .before .column3 .ensures in
-    let B = c .before .before .starts .ensures in (
-      book-of (s .args .sheet .now) (s .pre .0 .0) _ _ (R .stages) (omega (arith, R .stages-at, c .before .before .before .before .before .before .before .before .before .before .before .before .before .before .before .before .before .stages-at .ensures)) _ _ T _ _ _ _ _ _ _ _ H L (B .0) (omega (arith, R .stages-at, c .before .before .before .before .before .before .before .before .before .before .before .before .before .before .before .before .before .stages-at .ensures)) (omega (arith, R .stages-at, c .before .before .before .before .before .before .before .before .before .before .before .before .before .before .before .before .before .stages-at .ensures)) (R .places),
-      record { places = B .1; tail = T .beyond; head = H .beyond; furlongs = L .beyond },
+    let f = c .before .before in
+    let l = at-first (f .before) in
+    let h = at-lengths (l .before .before) in
+    let t = at-heads (h .before .before) in
+    let d = at-tails t in
+    let s = begin (d .before) in
+    let R = facts s in (
+      book-of (s .args .sheet .now) (s .pre .0 .stages) _ _ (R .stages) (from d) _ _ (t .column .ensures) _ _ _ _ _ _ _ _
+          (omega (arith, s .pre .1 .tail, t .column .kept)) (omega (arith, s .pre .1 .head, h .column2 .kept)) (omega (arith, s .pre .1 .furlongs, l .column3 .kept)) (omega (arith, s .pre .1 .places, f .starts .kept))
+          (h .column2 .ensures) (l .column3 .ensures) (f .starts .ensures .0) (omega (arith, from d)) (omega (arith, from d)) (R .places),
+      record { places = f .starts .ensures .1; tail = t .column .ensures .beyond; head = h .column2 .ensures .beyond; furlongs = l .column3 .ensures .beyond },
     )
 
 pub road-book-spec : {M : Type 1} → statement M

@@ -1,4 +1,4 @@
--- `sheet::word` meets its contract.
+-- `sheet::word` meets its contract: four bytes, each within the sheet.
 use native.Mathlib.Omega.{arith}
 use borrow.Author.Needs.{needs}
 use Rattle.paper.specs.Sheet.{word as wordOf}

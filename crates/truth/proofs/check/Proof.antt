@@ -1,11 +1,35 @@
--- `truth::check` meets its contract.
-use mathlib.Core.Path.{sym, _∙_}
+-- `truth::check` meets its contract: the map of a sheet that is laid out is judged, and the number of any other is given.
+use mathlib.Core.Path.{_≡_, sym, _∙_}
 use native.Mathlib.Omega.{arith}
 use borrow.Author.Needs.{needs}
+use Rattle.paper.specs.Layout.{Bytes}
+use Rattle.paper.proofs.Laid.{laid-out}
 use Rattle.paper.proofs.Checked.{checked-truth}
-use Rattle.truth.proofs.Surveyed.{laid-ready, laid-refused}
+use Rattle.sheet.specs.Laid.{laidOf}
+use Rattle.sheet.specs.declared.Laid.{Laid}
+use Rattle.truth.proofs.Surveyed.{laid-ground, laid-checked, laid-refused}
 use Rattle.truth.proofs.check.Statement.{statement}
 use Rattle.truth.proofs.check.Tie as tie
+
+-- the places, each by the one before it
+abbrev seen : tie.After-layout → tie.After-shared-slice-known
+seen c = c .before .before
+
+abbrev told : tie.After-judge-arg → tie.After-laid
+told c = c .before .before
+
+abbrev out : tie.After-laid → tie.After-layout
+out c = c .before .before
+
+abbrev refused : tie.After-laid2 → tie.After-layout
+refused c = c .before .before
+
+bytes : (c : tie.After-layout) → Bytes (seen c .before .args .sheet .now)
+bytes c k p = omega (arith, seen c .shared-slice-known .given k)
+
+-- the layout comes to what the match sees
+comes : (c : tie.After-layout) (r : Laid) → c .layout .result ≡ r → r ≡ laidOf (seen c .before .args .sheet .now)
+comes c r e = sym e ∙ c .layout .ensures
 
 layout-requires : tie.Need-layout-requires
 layout-requires c κs = search needs
@@ -14,7 +38,7 @@ enum-known-laid : tie.Need-enum-known-laid
 enum-known-laid c = search needs
 
 judge-requires : tie.Need-judge-requires
-judge-requires c κs = laid-ready _ _ (sym (c .before .before .laid .given .1) ∙ c .before .before .before .before .layout .ensures)
+judge-requires c κs = let t = told c in laid-ground _ _ (comes (out t) _ (t .laid .given .1))
 
 enum-known-laid-2 : tie.Need-enum-known-laid-2
 enum-known-laid-2 c = search needs
@@ -24,13 +48,16 @@ same-length c = search needs
 
 returns : tie.Need-returns
 returns c =
-    let ended = c .before .before .judge .ensures in
-    (ended, λ long. checked-truth (λ k p. omega (arith, c .before .before .before .before .before .before .before .before .before .shared-slice-known .given k)) long ended)
+    let j = c .before .before in
+    let t = told (j .before) in
+    let ended = laid-checked _ _ _ _ _ (comes (out t) _ (t .laid .given .1)) (j .judge .ensures) in
+    (ended, λ long. checked-truth (laid-out _ (bytes (out t))) long ended)
 
 returns-2 : tie.Need-returns-2
 returns-2 c =
-    let ended = laid-refused _ _ _ (sym (c .before .laid2 .given .1) ∙ c .before .before .before .layout .ensures) in
-    (ended, λ long. checked-truth (λ k p. omega (arith, c .before .before .before .before .before .shared-slice-known .given k)) long ended)
+    let t = c .before in
+    let ended = laid-refused _ _ _ (comes (refused t) _ (t .laid2 .given .1)) in
+    (ended, λ long. checked-truth (laid-out _ (bytes (refused t))) long ended)
 
 pub check-spec : {M : Type 1} → statement M
 check-spec =

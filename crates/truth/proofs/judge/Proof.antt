@@ -1,23 +1,20 @@
--- `truth::judge` meets its contract.
-use Prim.Native.Nat.{_≤_}
+-- `truth::judge` meets its contract: a slice that is too short, or the survey.
 use native.Mathlib.Nat.{mul-le-mul}
 use native.Mathlib.Omega.{arith}
 use borrow.Author.Needs.{needs}
-use Rattle.paper.specs.Sizes.{mostPlaces}
-use Rattle.paper.specs.Layout.{Bytes}
-use Rattle.quadtree.proofs.Words.{standing, laid}
+use Rattle.sheet.proofs.Room.{room}
 use Rattle.truth.proofs.Surveyed.{short-end}
 use Rattle.truth.proofs.judge.Statement.{statement}
 use Rattle.truth.proofs.judge.Tie as tie
 
-places-most : (c : tie.Start) → Bytes (c .args .sheet .now) → c .args .counts .places ≤ mostPlaces
-places-most c bytes = omega (arith, (standing (c .pre) .places), laid (c .pre) bytes .places)
+abbrev begin : tie.After-slice-known → tie.Start
+begin c = c .before .before
 
 mul-if1 : tie.Need-mul-if1
-mul-if1 c = let n = places-most (c .before .before) (λ k p. omega (arith, c .before .shared-slice-known .given k)) in omega (arith, mul-le-mul n n)
+mul-if1 c = let n = room _ _ (begin c .pre .parts) .within .places in omega (arith, mul-le-mul n n)
 
 returns : tie.Need-returns
-returns c = short-end _ _ _ (c .before .before .before .pre) (omega arith)
+returns c = short-end _ _ _ (begin (c .before) .pre) (omega arith)
 
 survey-requires : tie.Need-survey-requires
 survey-requires c κs = search needs

@@ -2,7 +2,8 @@
 use native.Mathlib.Omega.{arith}
 use borrow.Author.Needs.{needs}
 use lib.ListN.{length-set}
-use Rattle.nearest.proofs.Stores.{stored-four}
+use Rattle.quadtree.specs.Walks.{trailOf}
+use Rattle.nearest.proofs.Stores.{puts, stored-puts}
 use Rattle.nearest.proofs.slices.store.Statement.{statement}
 use Rattle.nearest.proofs.slices.store.Tie as tie
 
@@ -46,7 +47,8 @@ same-length : tie.Need-same-length
 same-length c = search needs
 
 returns : tie.Need-returns
-returns c = stored-four (c .args .working .now) (c .args .i) _ _ _ _ (c .args .t .low .0) (c .pre)
+unfolding puts
+returns c = stored-puts (c .args .working .now) (c .args .i) (trailOf (c .args .t)) (c .pre)
 
 pub store-spec : {M : Type 1} → statement M
 store-spec =

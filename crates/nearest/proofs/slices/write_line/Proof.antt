@@ -2,7 +2,9 @@
 use native.Mathlib.Omega.{arith}
 use borrow.Author.Needs.{needs}
 use lib.ListN.{length-set}
-use Rattle.nearest.proofs.Stores.{wrote-four}
+use Rattle.quadtree.specs.Walks.{trailOf}
+use Rattle.paper.specs.Listing.{lineOf}
+use Rattle.nearest.proofs.Stores.{puts, wrote-puts}
 use Rattle.nearest.proofs.slices.write_line.Statement.{statement}
 use Rattle.nearest.proofs.slices.write_line.Tie as tie
 
@@ -46,7 +48,8 @@ same-length : tie.Need-same-length
 same-length c = search needs
 
 returns : tie.Need-returns
-returns c = wrote-four (c .args .answer .now) (c .args .r) _ _ _ _ (c .pre)
+unfolding puts
+returns c x = wrote-puts (c .args .answer .now) (c .args .r) (lineOf x (c .args .i) (trailOf (c .args .t))) (c .pre)
 
 pub write-line-spec : {M : Type 1} → statement M
 write-line-spec =

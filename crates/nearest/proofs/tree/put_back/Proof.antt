@@ -6,6 +6,16 @@ use Rattle.nearest.proofs.Put.{put-back}
 use Rattle.nearest.proofs.tree.put_back.Statement.{statement}
 use Rattle.nearest.proofs.tree.put_back.Tie as tie
 
+-- the places, each by the one before it
+abbrev begin : tie.After-store → tie.Start
+begin c = c .before .before .before .before
+
+abbrev keyed : tie.After-change → tie.After-key
+keyed c = c .before
+
+abbrev stored : tie.After-key → tie.After-store
+stored c = c .before .before .before .before
+
 store-requires : tie.Need-store-requires
 store-requires c κs = search needs
 
@@ -17,8 +27,8 @@ key-requires c κs = search needs
 
 change-requires : tie.Need-change-requires
 change-requires c κs =
-    let x = c .before .before .before .before in
-    let p = x .before .before .before .before .pre in
+    let x = stored c in
+    let p = begin x .pre in
     (p .here, stored-played (x .store .ensures) _ (p .here) (p .shown .played))
 
 same-length : tie.Need-same-length
@@ -27,9 +37,9 @@ same-length c = search needs
 returns : tie.Need-returns
 returns c =
     let x = c .before .before in
-    let k = x .before in
-    let y = k .before .before .before .before in
-    let p = y .before .before .before .before .pre in (
+    let k = keyed x in
+    let y = stored k in
+    let p = begin y .pre in (
       beyond-then (stored-beyond (y .store .ensures) _ (p .here)) (changed-beyond _ _ _ _ _ (p .here) (x .change .ensures .0)),
       λ m ss S sane. put-back ss _ (p .here) S _ _ _ (y .store .ensures) _ (k .key .ensures) (x .change .ensures .0) (x .change .ensures .1) sane,
     )

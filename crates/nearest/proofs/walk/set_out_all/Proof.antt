@@ -3,27 +3,37 @@ use Prim.Native.Nat.{_-_, _*_, _≤_}
 use native.Mathlib.Omega.{arith}
 use borrow.Author.Needs.{needs}
 use Rattle.paper.specs.Sizes.{slotWords}
-use Rattle.paper.specs.Sheet.{mapOf, officesOf}
+use Rattle.paper.specs.Sheet.{mapOf, officesIn}
+use Rattle.paper.specs.Quest.{outward}
+use Rattle.sheet.proofs.Grounds.{roll-count}
 use Rattle.nearest.specs.Working.{Beyond}
 use Rattle.nearest.proofs.Take.{beyond-then, beyond-same}
 use Rattle.nearest.proofs.Begun.{Prefix, prefix-none, prefix-next, prefix-refused, built-beyond, started-all}
-use Rattle.quadtree.proofs.Words.{standing}
 use Rattle.nearest.proofs.walk.set_out_all.Statement.{statement}
 use Rattle.nearest.proofs.walk.set_out_all.Tie as tie
 
 abbrev Inv-loop : tie.InvT-loop
-Inv-loop sheet counts q working₀ n i₀ working i =
-    (i ≤ n) × Beyond (slotWords * counts .offices) working₀ working × Prefix (mapOf sheet) (officesOf sheet) q i working
+Inv-loop ground counts list q working₀ n i₀ working i =
+    (i ≤ n) × Beyond (slotWords * counts .offices) working₀ working × Prefix (mapOf ground) (outward (officesIn list) q) i working
 
 abbrev μ-loop : tie.MeasureT-loop
-μ-loop sheet counts q working₀ n i₀ working i = n - i
+μ-loop ground counts list q working₀ n i₀ working i = n - i
+
+-- the places, each by the one before it
+abbrev begin : tie.At-loop Inv-loop μ-loop → tie.Start Inv-loop μ-loop
+begin c = c .before .before .before .before
+
+abbrev around : tie.After-set-out Inv-loop μ-loop → tie.At-loop Inv-loop μ-loop
+around c = c .before .before .before
 
 loop-holds : tie.Need-loop-holds Inv-loop μ-loop
-loop-holds c = (omega arith, beyond-same _ _, prefix-none _ _ _ _)
+loop-holds c = (omega arith, beyond-same _ _, prefix-none _ _ _)
 
 set-out-requires : tie.Need-set-out-requires Inv-loop μ-loop
-set-out-requires c κs = let p = c .before .before .before .before .before .pre in
-    (p .0, (p .1 .0, c .before .loop-test .taken, omega (arith, p .1 .2, c .before .before .loop .inv .1 .long)))
+set-out-requires c κs =
+    let l = c .before .before in
+    let p = begin l .pre in
+    (p .0, (p .1 .0, (p .1 .1 .0, c .before .loop-test .taken, omega (arith, p .1 .1 .2, l .loop .inv .1 .long))))
 
 enum-known-begun : tie.Need-enum-known-begun Inv-loop μ-loop
 enum-known-begun c = search needs
@@ -34,11 +44,9 @@ same-length c = search needs
 returns : tie.Need-returns Inv-loop μ-loop
 returns c =
     let x = c .before .before .before .before .before in
-    let l = x .before .before .before in
-    let s = l .before .before .before in
-    let R = standing (s .pre .0) in (
+    let l = around x in (
       beyond-then (l .loop .inv .1) (x .set-out .ensures .0),
-      prefix-refused _ _ _ (l .loop .inv .2) (omega (arith, R .offices, x .before .before .loop-test .taken)) _ (rw (c .before .begun .given .1) at (x .set-out .ensures .1)),
+      prefix-refused _ _ (l .loop .inv .2) (omega (arith, roll-count (begin l .pre .1 .0), x .before .before .loop-test .taken)) _ (rw (c .before .begun .given .1) at (x .set-out .ensures .1)),
     )
 
 enum-told : tie.Need-enum-told Inv-loop μ-loop
@@ -53,12 +61,12 @@ loop-less c = search needs
 loop-again : tie.Need-loop-again Inv-loop μ-loop
 loop-again c =
     let x = c .before .before .before .before in
-    let l = x .before .before .before in
-    let s = l .before .before .before in
-    let R = standing (s .pre .0) in (
+    let l = around x in
+    let p = begin l .pre in
+    let n = roll-count (p .1 .0) in (
       omega arith,
       beyond-then (l .loop .inv .1) (x .set-out .ensures .0),
-      prefix-next _ _ _ (l .loop .inv .2) (omega (arith, R .offices, x .before .before .loop-test .taken)) (omega (arith, R .offices, s .pre .1 .2, l .loop .inv .1 .long)) _ (rw (c .enum-told .given .1) at (x .set-out .ensures .1)),
+      prefix-next _ _ (l .loop .inv .2) (omega (arith, n, x .before .before .loop-test .taken)) (omega (arith, n, p .1 .1 .2, l .loop .inv .1 .long)) _ (rw (c .enum-told .given .1) at (x .set-out .ensures .1)),
     )
 
 mul-build : tie.Need-mul-build Inv-loop μ-loop
@@ -67,8 +75,8 @@ mul-build c = search needs
 build-requires : tie.Need-build-requires Inv-loop μ-loop
 build-requires c κs =
     let l = c .before .before in
-    let p = l .before .before .before .pre in
-    record { some = p .1 .1; ends = omega (arith, p .1 .2, l .loop .inv .1 .long) }
+    let p = begin l .pre in
+    record { some = p .1 .1 .1; ends = omega (arith, p .1 .1 .2, l .loop .inv .1 .long) }
 
 same-length-2 : tie.Need-same-length-2 Inv-loop μ-loop
 same-length-2 c = search needs
@@ -77,10 +85,9 @@ returns-2 : tie.Need-returns-2 Inv-loop μ-loop
 returns-2 c =
     let x = c .before .before in
     let l = x .before .before .before in
-    let s = l .before .before .before in
-    let R = standing (s .pre .0) in (
+    let p = begin l .pre in (
       beyond-then (l .loop .inv .1) (built-beyond _ _ _ (x .build .ensures .0)),
-      started-all _ _ _ _ _ _ (R .offices) (omega arith) (l .loop .inv .2) (R .within .offices) (omega (arith, s .pre .1 .2, l .loop .inv .1 .long)) _ (x .build .ensures .0) (x .build .ensures .1),
+      started-all _ _ _ _ _ (roll-count (p .1 .0)) (omega arith) (l .loop .inv .2) (p .1 .0 .few) (omega (arith, p .1 .1 .2, l .loop .inv .1 .long)) _ (x .build .ensures .0) (x .build .ensures .1),
     )
 
 pub set-out-all-spec : {M : Type 1} → statement M

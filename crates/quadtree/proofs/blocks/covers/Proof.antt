@@ -1,10 +1,21 @@
 -- `quadtree::blocks::covers` meets its contract: each return is one of the tests of the definition.
 use native.Mathlib.Omega.{arith}
 use borrow.Author.Needs.{needs}
+use Rattle.paper.specs.Layout.{Bytes}
 use Rattle.quadtree.proofs.Words.{level-room, end-room}
 use Rattle.quadtree.proofs.Search.{covers-other, covers-before, covers-from}
 use Rattle.quadtree.proofs.blocks.covers.Statement.{statement}
 use Rattle.quadtree.proofs.blocks.covers.Tie as tie
+
+-- the places, each by the one before it
+abbrev begin : tie.After-code-of → tie.Start
+begin c = c .before .before .before .before
+
+abbrev coded : tie.After-level-of → tie.After-code-of
+coded c = c .before .before
+
+bytes : (c : tie.After-code-of) → Bytes (begin c .args .ground .now)
+bytes c i p = c .before .before .before .shared-slice-known .given i .fits
 
 owner-of-requires : tie.Need-owner-of-requires
 owner-of-requires c κs = search needs
@@ -21,20 +32,18 @@ returns-2 c = covers-before _ _ _ _ _ (c .before .code-of .ensures) (c .if2 .tak
 level-of-requires : tie.Need-level-of-requires
 level-of-requires c κs = search needs
 
-codes-under-requires : tie.Need-codes-under-requires
-codes-under-requires c κs = let s = c .before .before .before .before .before .before in level-room (s .pre .0) (λ i p. c .before .before .before .before .before .shared-slice-known .given i .fits) _ (s .pre .1) _ (c .level-of .ensures)
+cells-under-requires : tie.Need-cells-under-requires
+cells-under-requires c κs = let d = coded c in level-room (begin d .pre .0) (bytes d) _ (begin d .pre .1) _ (c .level-of .ensures)
 
 add-result : tie.Need-add-result
 add-result c =
-    let s = c .before .before .before .before .before .before .before in
-    let bytes = c .before .before .before .before .before .before .shared-slice-known .given in
-    omega (arith, end-room (s .pre .0) (λ i p. bytes i .fits) _ (s .pre .1) _ _ _ (c .before .before .before .code-of .ensures) (c .before .level-of .ensures) (c .codes-under .ensures))
+    let d = coded (c .before) in
+    omega (arith, end-room (begin d .pre .0) (bytes d) _ (begin d .pre .1) _ _ _ (d .code-of .ensures) (c .before .level-of .ensures) (c .cells-under .ensures))
 
 returns-3 : tie.Need-returns-3
 returns-3 c =
-    let t = c .before .before .before .before in
-    covers-from _ _ _ _ _ _ _ _ (t .before .owner-of .ensures) (t .if1 .left) (c .before .before .before .code-of .ensures)
-    (c .before .before .if2 .left) (c .before .level-of .ensures) (c .codes-under .ensures)
+    let d = coded (c .before) in
+    covers-from _ _ _ _ _ _ _ _ (d .before .before .owner-of .ensures) (d .before .if1 .left) (d .code-of .ensures) (c .before .before .if2 .left) (c .before .level-of .ensures) (c .cells-under .ensures)
 
 pub covers-spec : {M : Type 1} → statement M
 covers-spec =
@@ -45,6 +54,6 @@ covers-spec =
     code-of-requires
     returns-2
     level-of-requires
-    codes-under-requires
+    cells-under-requires
     add-result
     returns-3)

@@ -3,16 +3,16 @@ use mathlib.Core.Logic.{⊎-elim}
 use native.Mathlib.Omega.{arith}
 use borrow.Author.Needs.{needs}
 use Rattle.paper.specs.Sheet.{mapOf}
-use Rattle.quadtree.proofs.Words.{standing, laid}
+use Rattle.quadtree.proofs.Words.{standing, rules}
 use Rattle.quadtree.proofs.Search.{Narrow, narrow-all, narrow-up, narrow-down, narrow-one}
 use Rattle.quadtree.proofs.blocks.last_up_to.Statement.{statement}
 use Rattle.quadtree.proofs.blocks.last_up_to.Tie as tie
 
 abbrev Inv-loop : tie.InvT-loop
-Inv-loop sheet counts asked last₀ span₀ last span = Narrow (mapOf sheet) asked last span
+Inv-loop ground counts asked last₀ span₀ last span = Narrow (mapOf ground) asked last span
 
 abbrev μ-loop : tie.MeasureT-loop
-μ-loop sheet counts asked last₀ span₀ last span = span
+μ-loop ground counts asked last₀ span₀ last span = span
 
 loop-holds : tie.Need-loop-holds Inv-loop μ-loop
 loop-holds c = let e = standing (c .before .pre .0) .blocks in rw e (narrow-all _ _ (omega arith))
@@ -33,10 +33,10 @@ loop-again : tie.Need-loop-again Inv-loop μ-loop
 loop-again c =
     let i = c .before .before .before .loop in
     let s = c .before .before .before .before .before in
-    let L = laid (s .pre .0) (λ k p. c .before .before .before .before .shared-slice-known .given k .fits) in
+    let G = rules (s .pre .0) (λ k p. c .before .before .before .before .shared-slice-known .given k .fits) in
     ⊎-elim
-    (λ w. rw (w .1) (narrow-up L _ (i .last) (i .span) (i .inv) (omega arith) (omega (arith, w .0 .taken, c .before .key-of .ensures))))
-    (λ w. rw (w .1) (narrow-down L _ (i .last) (i .span) (i .inv) (omega arith) (omega (arith, w .0 .left, c .before .key-of .ensures))))
+    (λ w. rw (w .1) (narrow-up G _ (i .last) (i .span) (i .inv) (omega arith) (omega (arith, w .0 .taken, c .before .key-of .ensures))))
+    (λ w. rw (w .1) (narrow-down G _ (i .last) (i .span) (i .inv) (omega arith) (omega (arith, w .0 .left, c .before .key-of .ensures))))
     (c .if1 .came)
 
 returns : tie.Need-returns Inv-loop μ-loop

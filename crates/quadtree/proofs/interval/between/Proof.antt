@@ -1,12 +1,10 @@
 -- `quadtree::interval::between` meets its contract.
-use native.Mathlib.Omega.{arith}
 use borrow.Author.Needs.{needs}
-use Rattle.quadtree.proofs.Words.{standing, laid}
 use Rattle.quadtree.proofs.interval.between.Statement.{statement}
 use Rattle.quadtree.proofs.interval.between.Tie as tie
 
 code-requires : tie.Need-code-requires
-code-requires c κs = let s = c .before in (s .pre .0 .laid, omega (arith, standing (s .pre .0) .places))
+code-requires c κs = search needs
 
 towards-requires : tie.Need-towards-requires
 towards-requires c κs = search needs

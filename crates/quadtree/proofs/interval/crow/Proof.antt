@@ -1,21 +1,20 @@
 -- `quadtree::interval::crow` meets its contract.
 use mathlib.Core.Path.{_∙_}
-use borrow.Author.Needs.{needs}
 use Rattle.cells.proofs.Codes.{crow-places}
-use Rattle.quadtree.proofs.Words.{on-grid}
+use Rattle.quadtree.proofs.Words.{place-room, on-grid}
 use Rattle.quadtree.proofs.interval.crow.Statement.{statement}
 use Rattle.quadtree.proofs.interval.crow.Tie as tie
 
 cell-of-requires : tie.Need-cell-of-requires
-cell-of-requires c κs = search needs
+cell-of-requires c κs = place-room (c .before .pre .0) _ (c .before .pre .1 .0)
 
 cell-of-requires-2 : tie.Need-cell-of-requires-2
-cell-of-requires-2 c κs = search needs
+cell-of-requires-2 c κs = place-room (c .before .before .pre .0) _ (c .before .before .pre .1 .1)
 
 crow-requires : tie.Need-crow-requires
 crow-requires c κs =
     let s = c .before .before .before in
-    (on-grid _ (s .pre .0) _ (s .pre .1 .0) _ (c .before .cell-of .ensures), on-grid _ (s .pre .0) _ (s .pre .1 .1) _ (c .cell-of2 .ensures))
+    (on-grid (s .pre .0) _ _ (s .pre .1 .0) (c .before .cell-of .ensures), on-grid (s .pre .0) _ _ (s .pre .1 .1) (c .cell-of2 .ensures))
 
 returns : tie.Need-returns
 returns c =

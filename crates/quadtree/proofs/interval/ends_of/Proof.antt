@@ -20,7 +20,7 @@ high-end-requires c κs = search needs
 returns : tie.Need-returns
 returns c =
     let a = c .before .before .before .before .before .args in
-    ends-are (mapOf (a .sheet .now)) (a .b) _ _ _ _ _ (c .before .before .before .low-of .ensures) (c .before .high-of .ensures) (c .before .before .low-end .ensures) (c .high-end .ensures)
+    ends-are (mapOf (a .ground .now)) (a .b) _ _ _ _ _ (c .before .before .before .low-of .ensures) (c .before .high-of .ensures) (c .before .before .low-end .ensures) (c .high-end .ensures)
 
 pub ends-of-spec : {M : Type 1} → statement M
 ends-of-spec =

@@ -1,76 +1,95 @@
 -- `quadtree::walk::refine` meets its contract: the stage that the block names is one of the book's.
-use mathlib.Core.Path.{_≡_, sym, _∙_}
+use mathlib.Core.Path.{_≡_, sym, ap, _∙_}
 use Prim.Native.Nat.{_<_}
 use native.Mathlib.Omega.{arith}
 use borrow.Author.Needs.{needs}
 use Rattle.paper.specs.Map.{Map}
 use Rattle.paper.specs.Sheet.{mapOf}
 use Rattle.paper.specs.Block.{blockOf}
-use Rattle.paper.proofs.LaidOut.{LaidOut}
+use Rattle.paper.specs.Ground.{SameGround}
 use Rattle.paper.proofs.Block.{BlockOf, block-of}
-use Rattle.quadtree.specs.declared.blocks.Cover.the-variants.{By}
+use Rattle.paper.proofs.Ground.{same-refl, block-same}
+use Rattle.sheet.specs.Ground.{Charted}
+use Rattle.quadtree.specs.declared.blocks.Cover.{Cover}
 use Rattle.quadtree.specs.Blocks.{coverOf}
-use Rattle.quadtree.proofs.Words.{standing, laid}
-use Rattle.quadtree.proofs.Steps.{cover-some, refine-last, refine-none, refine-to}
-use Rattle.quadtree.proofs.Sizes.{stage-under}
+use Rattle.quadtree.specs.Walks.{stepOf}
+use Rattle.quadtree.proofs.Words.{standing}
+use Rattle.quadtree.proofs.Charts.{Led, led, first-room}
+use Rattle.quadtree.proofs.Steps.{cover-some, walked-same, refine-last, refine-none, refine-to}
 use Rattle.quadtree.proofs.Search.{cell-lt}
 use Rattle.quadtree.proofs.walk.refine.Statement.{statement}
 use Rattle.quadtree.proofs.walk.refine.Tie as tie
 
--- in the arm of a block that covers v: where the function began, the map, and what the block tells
-abbrev begin : tie.After-known-told → tie.Start
-begin c = c .before .before .before .before .before .before .before .before .before .before .before .before
+-- where the function began, from the search for the block, and from what the block names
+abbrev begin : tie.After-block-of → tie.Start
+begin c = c .before .before .before .before .before .before .before .before .before
 
-abbrev mapAt : tie.After-known-told → Map
-mapAt c = mapOf (begin c .args .sheet .now)
+abbrev searched : tie.After-stage-of → tie.After-block-of
+searched c = c .before .before .before .before
 
-laidAt : (c : tie.After-known-told) → LaidOut (mapAt c)
-laidAt c = laid (begin c .pre .0) (λ i p. c .before .before .before .before .before .before .before .before .before .before .before .shared-slice-known .given i .fits)
+-- the place and the trail are within the places of a map that has the ground
+module _ (c : tie.After-block-of) (m : Map) (S : SameGround m (mapOf (begin c .args .ground .now))) where
+  within : (begin c .args .v < m .places) × (begin c .args .t .via < m .places)
+  within = let s = begin c in omega (arith, s .pre .1 .1, standing (s .pre .0) .places, S .places)
 
-covered : (c : tie.After-known-told) → By (c .before .cover .given .0 .0) ≡ coverOf (blockOf (mapAt c) (begin c .args .t .via) (begin c .args .v))
-covered c = sym (c .before .cover .given .1) ∙ c .before .before .before .block-of .ensures .block _ (sym (c .before .before .before .before .code .ensures))
+  -- what the search found is what the definition finds
+  found : (r : Cover) → c .block-of .result ≡ r → r ≡ coverOf (blockOf m (begin c .args .t .via) (begin c .args .v))
+  found r e = sym e ∙ c .block-of .ensures .block _ (sym (c .before .code .ensures)) ∙ ap coverOf (sym (block-same S _ _ (within .0)))
 
-named : (c : tie.After-known-told) → BlockOf (mapAt c) (begin c .args .t .via) (begin c .args .v) (mapAt c .blocks) (c .before .cover .given .0 .0)
-named c = block-of _ _ _ _ (cover-some _ _ (covered c))
+  more : m .places ≡ begin c .args .counts .places
+  more = S .places ∙ sym (standing (begin c .pre .0) .places)
 
-under : (c : tie.After-stage-of) → c .stage-of .result < mapAt (c .before) .stages
-under c = rw (c .stage-of .ensures) (stage-under (laidAt (c .before)) _ _ (named (c .before) .under) (named (c .before) .owner))
+-- the block that was found is the via's
+named : (c : tie.After-stage-of) → let d = searched c in
+    BlockOf (mapOf (begin d .args .ground .now)) (begin d .args .t .via) (begin d .args .v) (mapOf (begin d .args .ground .now) .blocks) (c .before .before .cover .given .0 .0)
+named c = block-of _ _ _ _ (cover-some _ _ (found (searched c) _ (same-refl _) _ (c .before .before .cover .given .1)))
+
+-- the stage that it names, on any map that has the ground and the book
+stage : (c : tie.After-stage-of) → let s = begin (searched c) in (m : Map) → Charted (s .args .ground .now) (s .args .first .now) (s .args .heads .now) (s .args .lengths .now) m
+    → Led m (s .args .heads .now) (s .args .lengths .now) (s .args .t .via) (c .before .before .cover .given .0 .0) (c .stage-of .result)
+stage c m C = let B = named c in led C _ _ _ (B .under) (B .owner) (c .stage-of .ensures)
+
+-- on one of them: what the reads need
+read : (c : tie.After-stage-of) → let s = begin (searched c) in Led (s .pre .1 .0 .map) (s .args .heads .now) (s .args .lengths .now) (s .args .t .via) (c .before .before .cover .given .0 .0) (c .stage-of .result)
+read c = let s = begin (searched c) in stage c (s .pre .1 .0 .map) (s .pre .1 .0 .charted)
 
 add-if1 : tie.Need-add-if1
 add-if1 c = search needs
 
 returns : tie.Need-returns
-returns c = refine-last _ _ _ (omega (arith, c .if1 .taken, standing (c .before .before .before .before .before .before .before .pre .0) .places))
+returns c m C = let s = c .before .before .before .before .before .before .before in refine-last _ _ _ (omega (arith, c .if1 .taken, standing (s .pre .0) .places, C .ground .places))
 
 code-requires : tie.Need-code-requires
-code-requires c κs = let s = c .before .before .before .before .before .before .before in (s .pre .0 .laid, omega (arith, s .pre .1 .1 .0, standing (s .pre .0) .places))
+code-requires c κs = let s = c .before .before .before .before .before .before .before in (s .pre .0, s .pre .1 .1 .0)
 
 block-of-requires : tie.Need-block-of-requires
-block-of-requires c κs = let s = c .before .before .before .before .before .before .before .before in (s .pre .0, (omega (arith, s .pre .1 .1 .1 .via, standing (s .pre .0) .places), cell-lt _ _ _ (c .code .ensures)))
+block-of-requires c κs = let s = c .before .before .before .before .before .before .before .before in (s .pre .0, (s .pre .1 .1 .1 .via, cell-lt _ _ _ (c .code .ensures)))
 
 enum-known-cover : tie.Need-enum-known-cover
 enum-known-cover c = search needs
 
 stage-of-requires : tie.Need-stage-of-requires
 stage-of-requires c κs =
-    let s = begin c in
-    let B = named c in
-    (s .pre .0, ((omega (arith, s .pre .1 .1 .1 .via, standing (s .pre .0) .places), omega (arith, B .under, standing (s .pre .0) .blocks), B .owner), s .pre .1 .0 .begins))
+    let d = c .before .before .before in
+    let s = begin d in
+    let B = block-of _ _ _ _ (cover-some _ _ (found d _ (same-refl _) _ (c .before .cover .given .1))) in
+    let e = standing (s .pre .0) in
+    (s .pre .0, (first-room (s .pre .1 .0 .charted) _ (omega (arith, s .pre .1 .1 .1 .via, e .places)), omega (arith, B .under, e .blocks)))
 
 mul-walked-to : tie.Need-mul-walked-to
-mul-walked-to c = omega (arith, under c, begin (c .before) .pre .1 .0 .to .long)
+mul-walked-to c = omega (arith, read c)
 
 shared-slice-read-walked-to : tie.Need-shared-slice-read-walked-to
-shared-slice-read-walked-to c = omega (arith, under (c .before), begin (c .before .before) .pre .1 .0 .to .long)
+shared-slice-read-walked-to c = omega (arith, read (c .before))
 
 cast-walked-to : tie.Need-cast-walked-to
 cast-walked-to c = omega (arith, c .shared-slice-known5 .given (c .before .stage-of .result))
 
 mul-furlongs : tie.Need-mul-furlongs
-mul-furlongs c = omega (arith, under (c .before), begin (c .before .before) .pre .1 .0 .to .long)
+mul-furlongs c = omega (arith, read (c .before))
 
 shared-slice-read-furlongs : tie.Need-shared-slice-read-furlongs
-shared-slice-read-furlongs c = omega (arith, under (c .before .before), begin (c .before .before .before) .pre .1 .0 .long .long)
+shared-slice-read-furlongs c = omega (arith, read (c .before .before))
 
 furlongs-requires : tie.Need-furlongs-requires
 furlongs-requires c κs = search needs
@@ -78,27 +97,26 @@ furlongs-requires c κs = search needs
 walked-to-requires : tie.Need-walked-to-requires
 walked-to-requires c κs =
     let d = c .before .before .before in
-    let s = begin (d .before) in
-    let e = standing (s .pre .0) .places in
-    let i = d .stage-of .result in
-    let h = laidAt (d .before) .heads i (under d) in
-    (s .pre .0, (omega (arith, h, s .pre .1 .0 .to .each i (under d)), s .pre .1 .1 .0, d .before .before .before .before .before .code .ensures, s .pre .1 .1 .1, omega (arith, c .furlongs .ensures .0, c .furlongs .ensures .1)))
+    let b = searched d in
+    let s = begin b in
+    let L = read d in
+    (s .pre .0, (omega (arith, L, more b _ (s .pre .1 .0 .charted .ground)), s .pre .1 .1 .0, b .before .code .ensures, s .pre .1 .1 .1, omega (arith, L, c .furlongs .ensures .0)))
 
 enum-told : tie.Need-enum-told
 enum-told c = search needs
 
 returns-2 : tie.Need-returns-2
-returns-2 c =
+returns-2 c m C =
     let d = c .before .before .before .before in
-    let s = begin (d .before) in
-    refine-to _ _ _ _ _ _ _ _ (omega (arith, standing (s .pre .0) .places, d .before .before .before .before .before .before .if1 .left)) (covered (d .before)) (d .stage-of .ensures)
-    (s .pre .1 .0 .to .each _ (under d)) (c .before .furlongs .ensures .0 ∙ s .pre .1 .0 .long .each _ (under d)) (c .walked-to .ensures)
+    let b = searched d in
+    let L = stage d m C in
+    refine-to _ _ _ _ _ _ _ _ (omega (arith, more b m (C .ground), b .before .before .if1 .left)) (found b m (C .ground) _ (d .before .before .cover .given .1)) (L .is) (L .head)
+    (c .before .furlongs .ensures .0 ∙ L .furlongs) (c .walked-to .ensures ∙ ap stepOf (sym (walked-same (C .ground) _ _ _ _ (omega (arith, L)) (within b m (C .ground) .0))))
 
 returns-3 : tie.Need-returns-3
-returns-3 c =
-    let s = c .before .before .before .before .before .before .before .before .before .before .before in
-    refine-none _ _ _ (omega (arith, standing (s .pre .0) .places, c .before .before .before .before .if1 .left))
-    (sym (c .enum-told .given .1) ∙ c .before .before .block-of .ensures .block _ (sym (c .before .before .before .code .ensures)))
+returns-3 c m C =
+    let b = c .before .before in
+    refine-none _ _ _ (omega (arith, more b m (C .ground), b .before .before .if1 .left)) (found b m (C .ground) _ (c .enum-told .given .1))
 
 pub refine-spec : {M : Type 1} → statement M
 refine-spec =

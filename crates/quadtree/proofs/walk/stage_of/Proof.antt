@@ -1,22 +1,20 @@
 -- `quadtree::walk::stage_of` meets its contract.
 use native.Mathlib.Omega.{arith}
 use borrow.Author.Needs.{needs}
-use Rattle.quadtree.proofs.Words.{standing}
-use Rattle.quadtree.proofs.Steps.{stage-is}
 use Rattle.quadtree.proofs.walk.stage_of.Statement.{statement}
 use Rattle.quadtree.proofs.walk.stage_of.Tie as tie
 
 mul-result : tie.Need-mul-result
-mul-result c = let s = c .before .before in omega (arith, standing (s .pre .0) .places, s .pre .1 .1 .long)
+mul-result c = search needs
 
 shared-slice-read-result : tie.Need-shared-slice-read-result
-shared-slice-read-result c = let s = c .before .before .before in omega (arith, standing (s .pre .0) .places, s .pre .1 .1 .long)
+shared-slice-read-result c = search needs
 
 cast-result : tie.Need-cast-result
 cast-result c = omega (arith, c .shared-slice-known3 .given (c .before .before .before .args .u))
 
 colour-of-requires : tie.Need-colour-of-requires
-colour-of-requires c κs = let s = c .before .before .before in (s .pre .0, s .pre .1 .0 .1)
+colour-of-requires c κs = search needs
 
 cast-result-2 : tie.Need-cast-result-2
 cast-result-2 c = search needs
@@ -25,7 +23,7 @@ add-result : tie.Need-add-result
 add-result c = omega (arith, c .before .shared-slice-known3 .given (c .before .before .before .before .args .u), c .colour-of .ok)
 
 returns : tie.Need-returns
-returns c = let s = c .before .before .before .before in stage-is _ _ _ _ _ (s .pre .1 .1) (omega (arith, s .pre .1 .0 .0, standing (s .pre .0) .places)) (c .colour-of .ensures)
+returns c = omega (arith, c .colour-of .ensures)
 
 pub stage-of-spec : {M : Type 1} → statement M
 stage-of-spec =

@@ -4,11 +4,18 @@ use native.Mathlib.Omega.{arith}
 use borrow.Author.Needs.{needs}
 use Rattle.paper.specs.Trail.{Trail, tested}
 use Rattle.quadtree.specs.Walks.{stepOf}
-use Rattle.quadtree.proofs.Words.{standing, laid}
+use Rattle.quadtree.proofs.Words.{standing, rules}
 use Rattle.quadtree.proofs.Steps.{walked-ends, walked-refused}
 use Rattle.quadtree.proofs.Sizes.{ends-within}
 use Rattle.quadtree.proofs.walk.walked_to.Statement.{statement}
 use Rattle.quadtree.proofs.walk.walked_to.Tie as tie
+
+-- the places, each by the one before it
+abbrev begin : tie.After-towards → tie.Start
+begin c = c .before .before
+
+abbrev told : tie.After-known-told → tie.After-towards
+told c = c .before .before .before
 
 towards-requires : tie.Need-towards-requires
 towards-requires c κs = search needs
@@ -18,12 +25,13 @@ enum-known-next c = search needs
 
 onward-requires : tie.Need-onward-requires
 onward-requires c κs =
-    let s = c .before .before .before .before .before in
-    let e = standing (s .pre .0) .places in
-    let S = s .pre .1 .3 in
-    let L = laid (s .pre .0) (λ i p. c .before .before .before .before .shared-slice-known .given i .fits) in
-    let small = ends-within L _ _ (omega (arith, s .pre .1 .0)) (omega (arith, s .pre .1 .1)) _ _ (sym (c .before .next .given .1) ∙ c .before .before .before .towards .ensures) in
-    (S .walked, omega (arith, S .stages, L .places), s .pre .1 .4, small .0, small .1)
+    let d = told c in
+    let p = begin d .pre in
+    let e = standing (p .0) .places in
+    let S = p .1 .3 in
+    let G = rules (p .0) (λ i q. d .before .shared-slice-known .given i .fits) in
+    let small = ends-within G _ _ (omega (arith, p .1 .0)) (omega (arith, p .1 .1)) _ _ (sym (c .before .next .given .1) ∙ d .towards .ensures) in
+    (S .walked, omega (arith, S .stages, G .places), p .1 .4, small .0, small .1)
 
 tested-requires : tie.Need-tested-requires
 tested-requires c κs = search needs
@@ -33,11 +41,11 @@ enum-known-next-2 c = search needs
 
 returns : tie.Need-returns
 returns c =
-    walked-ends _ _ _ _ _ _ _ _ (sym (c .before .before .before .next .given .1) ∙ c .before .before .before .before .before .towards .ensures)
-    (c .tested .ensures ∙ ap (λ (t : Trail). stepOf (tested t)) (c .before .onward .ensures))
+    let t = c .before .before in
+    walked-ends _ _ _ _ _ _ _ _ (sym (t .before .next .given .1) ∙ told t .towards .ensures) (c .tested .ensures ∙ ap (λ (t : Trail). stepOf (tested t)) (c .before .onward .ensures))
 
 returns-2 : tie.Need-returns-2
-returns-2 c = walked-refused _ _ _ _ _ _ (sym (c .before .next2 .given .1) ∙ c .before .before .before .towards .ensures)
+returns-2 c = let d = c .before .before .before in walked-refused _ _ _ _ _ _ (sym (c .before .next2 .given .1) ∙ d .towards .ensures)
 
 pub walked-to-spec : {M : Type 1} → statement M
 walked-to-spec =

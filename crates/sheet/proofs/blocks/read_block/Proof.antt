@@ -1,4 +1,4 @@
--- `sheet::blocks::read_block` meets its contract.
+-- `sheet::blocks::read_block` meets its contract: each field is the map's word.
 use native.Mathlib.Omega.{arith}
 use borrow.Author.Needs.{needs}
 use Rattle.paper.specs.Sheet.{mapOf}
@@ -48,9 +48,20 @@ add-word-5 c = search needs
 word-requires-6 : tie.Need-word-requires-6
 word-requires-6 c κs = search needs
 
+-- where the first half of the record is read
+abbrev half : tie.After-word6 → tie.After-word3
+half c = c .before .before .before
+
 returns : tie.Need-returns
 unfolding mapOf
-returns c = record { owner = word-is _ _ _ _ (c .before .before .before .before .before .word .ensures) (omega arith); code = word-is _ _ _ _ (c .before .before .before .before .word2 .ensures) (omega arith); level = word-is _ _ _ _ (c .before .before .before .word3 .ensures) (omega arith); colour = word-is _ _ _ _ (c .before .before .word4 .ensures) (omega arith); low = word-is _ _ _ _ (c .before .word5 .ensures) (omega arith); high = word-is _ _ _ _ (c .word6 .ensures) (omega arith) }
+returns c = record {
+  owner = word-is _ _ _ _ (half c .before .before .word .ensures) (omega arith);
+  code = word-is _ _ _ _ (half c .before .word2 .ensures) (omega arith);
+  level = word-is _ _ _ _ (half c .word3 .ensures) (omega arith);
+  colour = word-is _ _ _ _ (c .before .before .word4 .ensures) (omega arith);
+  low = word-is _ _ _ _ (c .before .word5 .ensures) (omega arith);
+  high = word-is _ _ _ _ (c .word6 .ensures) (omega arith);
+}
 
 pub read-block-spec : {M : Type 1} → statement M
 read-block-spec =

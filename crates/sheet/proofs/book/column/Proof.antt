@@ -4,6 +4,7 @@ use Prim.Native.Nat.{_+_, _-_, _*_, _≤_}
 use native.Mathlib.Omega.{arith}
 use lib.ListN.{length, length-set}
 use borrow.Author.Needs.{needs}
+use Rattle.paper.specs.Sizes.{stageWords}
 use Rattle.paper.specs.Sheet.{word}
 use Rattle.sheet.specs.Book.{Filled}
 use Rattle.sheet.proofs.Booked.{filled-start, filled-step}
@@ -11,10 +12,14 @@ use Rattle.sheet.proofs.book.column.Statement.{statement}
 use Rattle.sheet.proofs.book.column.Tie as tie
 
 abbrev Inv-loop : tie.InvT-loop
-Inv-loop sheet base n out₀ i₀ out i = (i ≤ n) × (length out ≡ length out₀) × Filled i (λ k. word sheet (base + 3 * k)) out₀ out
+Inv-loop sheet base n out₀ i₀ out i = (i ≤ n) × (length out ≡ length out₀) × Filled i (λ k. word sheet (base + stageWords * k)) out₀ out
 
 abbrev μ-loop : tie.MeasureT-loop
 μ-loop sheet base n out₀ i₀ out i = n - i
+
+-- where the function began, from the loop
+abbrev begin : tie.At-loop Inv-loop μ-loop → tie.Start Inv-loop μ-loop
+begin l = l .before .before .before
 
 loop-holds : tie.Need-loop-holds Inv-loop μ-loop
 loop-holds c = (omega arith, refl, filled-start _ _)
@@ -23,10 +28,10 @@ mul-word : tie.Need-mul-word Inv-loop μ-loop
 mul-word c = search needs
 
 add-word : tie.Need-add-word Inv-loop μ-loop
-add-word c = omega (arith, c .before .before .before .before .pre .2 (c .before .loop .i) (omega arith), c .before .before .before .before .good)
+add-word c = let s = begin (c .before) in omega (arith, s .pre .2 (c .before .loop .i) (omega arith), s .good)
 
 word-requires : tie.Need-word-requires Inv-loop μ-loop
-word-requires c κs = c .before .before .before .before .pre .2 (c .before .loop .i) (omega arith)
+word-requires c κs = begin (c .before) .pre .2 (c .before .loop .i) (omega arith)
 
 mul-out : tie.Need-mul-out Inv-loop μ-loop
 mul-out c = search needs
@@ -51,7 +56,7 @@ same-length c = c .before .loop .inv .1
 returns : tie.Need-returns Inv-loop μ-loop
 returns c =
     let l = c .before .loop in
-    let e : l .i ≡ c .before .before .before .before .args .n = omega (arith, l .inv .0) in
+    let e : l .i ≡ begin (c .before) .args .n = omega (arith, l .inv .0) in
     rw e at (l .inv .2)
 
 pub column-spec : {M : Type 1} → statement M

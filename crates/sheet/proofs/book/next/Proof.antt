@@ -13,6 +13,10 @@ Inv-loop tails n from u i₀ i = (from ≤ i) × (i ≤ n) × ((k : ℕ) → fro
 abbrev μ-loop : tie.MeasureT-loop
 μ-loop tails n from u i₀ i = n - i
 
+-- the loop, from the word that was read in it
+abbrev around : tie.After-shared-slice-known Inv-loop μ-loop → tie.At-loop Inv-loop μ-loop
+around c = c .before .before
+
 loop-holds : tie.Need-loop-holds Inv-loop μ-loop
 loop-holds c = (omega arith, omega arith, λ k p q. absurd (omega arith))
 
@@ -23,7 +27,7 @@ shared-slice-read-if1 : tie.Need-shared-slice-read-if1 Inv-loop μ-loop
 shared-slice-read-if1 c = search needs
 
 returns : tie.Need-returns Inv-loop μ-loop
-returns c = let l = c .before .before .before .loop in record { least = l .inv .0; most = l .inv .1; low = l .inv .2; high = λ p. omega (arith, c .if1 .taken) }
+returns c = let l = around (c .before) .loop in record { least = l .inv .0; most = l .inv .1; low = l .inv .2; high = λ p. omega (arith, c .if1 .taken) }
 
 add-i : tie.Need-add-i Inv-loop μ-loop
 add-i c = search needs
@@ -33,7 +37,7 @@ loop-less c = search needs
 
 loop-again : tie.Need-loop-again Inv-loop μ-loop
 loop-again c =
-    let l = c .before .before .before .loop in
+    let l = around (c .before) .loop in
     (omega arith, omega arith, λ k p q. elim (ℕ-discrete k (l .i)) [ yes e ↦ rw e (omega (arith, c .if1 .left)) | no e ↦ l .inv .2 k p (omega arith) ])
 
 returns-2 : tie.Need-returns-2 Inv-loop μ-loop

@@ -14,6 +14,10 @@ Inv-loop tails n places first₀ i₀ u₀ first i u = (u ≤ places) × (length
 abbrev μ-loop : tie.MeasureT-loop
 μ-loop tails n places first₀ i₀ u₀ first i u = places - u
 
+-- where the function began, from the loop
+abbrev begin : tie.At-loop Inv-loop μ-loop → tie.Start Inv-loop μ-loop
+begin l = l .before .before .before
+
 loop-holds : tie.Need-loop-holds Inv-loop μ-loop
 loop-holds c = (omega arith, refl, begun-start _ _ _)
 
@@ -21,7 +25,7 @@ cast-next : tie.Need-cast-next Inv-loop μ-loop
 cast-next c = search needs
 
 next-requires : tie.Need-next-requires Inv-loop μ-loop
-next-requires c κs = (c .before .before .before .before .pre .0 .0, c .before .loop .inv .2 .upto)
+next-requires c κs = (begin (c .before) .pre .0 .0, c .before .loop .inv .2 .upto)
 
 cast-first : tie.Need-cast-first Inv-loop μ-loop
 cast-first c = search needs
@@ -41,7 +45,7 @@ loop-less c = search needs
 loop-again : tie.Need-loop-again Inv-loop μ-loop
 loop-again c =
     let l = c .before .before .loop in
-    (omega arith, simp length-set (l .inv .1), begun-step _ _ (c .before .before .before .before .before .pre .1) _ _ _ _ (l .inv .2) _ (c .next .ensures) (omega (arith, l .inv .1)))
+    (omega arith, simp length-set (l .inv .1), begun-step _ _ (begin (c .before .before) .pre .1) _ _ _ _ (l .inv .2) _ (c .next .ensures) (omega (arith, l .inv .1)))
 
 same-length : tie.Need-same-length Inv-loop μ-loop
 same-length c = c .before .loop .inv .1
@@ -49,7 +53,7 @@ same-length c = c .before .loop .inv .1
 returns : tie.Need-returns Inv-loop μ-loop
 returns c =
     let l = c .before .loop in
-    let e : l .u ≡ c .before .before .before .before .args .places = omega (arith, l .inv .0) in
+    let e : l .u ≡ begin (c .before) .args .places = omega (arith, l .inv .0) in
     (rw e at (l .inv .2 .each), rw e at (l .inv .2 .beyond))
 
 pub starts-spec : {M : Type 1} → statement M

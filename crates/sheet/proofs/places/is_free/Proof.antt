@@ -18,6 +18,10 @@ Inv-loop cells i cell free₀ j₀ free j = (j ≤ i) × (free ≡ every j (λ k
 abbrev μ-loop : tie.MeasureT-loop
 μ-loop cells i cell free₀ j₀ free j = i - j
 
+-- the loop, from the word that was read in it
+abbrev around : tie.After-shared-slice-known Inv-loop μ-loop → tie.At-loop Inv-loop μ-loop
+around c = c .before .before
+
 loop-holds : tie.Need-loop-holds Inv-loop μ-loop
 unfolding every
 loop-holds c = (omega arith, refl)
@@ -36,8 +40,8 @@ loop-less c = search needs
 
 loop-again : tie.Need-loop-again Inv-loop μ-loop
 loop-again c =
-    let l = c .before .before .before .loop in
-    let s = c .before .before .before .before .args .cells .now in
+    let l = around (c .before) .loop in
+    let s = around (c .before) .before .args .cells .now in
     ⊎-elim
     (λ w. (omega arith, w .1 ∙ met s _ _ (w .0 .taken)))
     (λ w. (omega arith, w .1 ∙ unmet s _ _ _ (l .inv .1) (w .0 .left)))

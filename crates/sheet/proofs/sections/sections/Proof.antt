@@ -1,50 +1,66 @@
--- `sheet::sections::sections` meets its contract: what is known after each section, then each way out.
-use mathlib.Core.Path.{_≡_, sym, ap, _∙_}
-use Prim.Native.Nat.{_/_, _%_, _+_, _*_}
+-- `sheet::sections::sections` meets its contract: what is known where each section is passed, then each way out.
+use mathlib.Core.List.{List}
+use Prim.Native.Nat.{ℕ, _+_, _*_}
+use native.Mathlib.Nat.{one-mul}
 use native.Mathlib.Omega.{arith}
-use lib.ListN.{length}
-use borrow.Author.Tests.{ne-eqb, eq-eqb}
 use borrow.Author.Needs.{needs}
-use Rattle.paper.specs.Layout.{endsAt, sections}
+use Rattle.paper.specs.Sizes.{placeWords, stageWords, blockWords, officeWords, mostPlaces, mostStages, mostBlocks, mostOffices}
+use Rattle.paper.specs.Layout.{endsAt}
 use Rattle.paper.specs.Sheet.{stagesAt, blocksAt, officesAt}
-use Rattle.sheet.specs.declared.Laid.the-variants.{Refused}
-use Rattle.sheet.proofs.Counted.{Stood, stood, refused-by, counts-are}
+use Rattle.sheet.proofs.Counted.{from, Come, no-words, words, past, refused, left-over, all-passed}
 use Rattle.sheet.proofs.sections.sections.Statement.{statement}
 use Rattle.sheet.proofs.sections.sections.Tie as tie
 
--- the count of each section, where nothing is due at it
-one : (c : tie.After-known-told) → Stood (c .before .before .before .before .before .before .args .sheet .now) 0 1 1024 2 (c .before .n .given .0 .0)
-one c = stood _ _ _ _ _ _ (sym (c .before .n .given .1) ∙ c .before .before .before .section .ensures)
+-- the places, each by the one before it: where a section is passed, by the next section; the sheet; the word where the next section stands
+abbrev placed : tie.After-section2 → tie.After-n
+placed c = c .before .before
 
--- where the next section stands
-one-at : (c : tie.After-known-told) → 1 + 2 * c .before .n .given .0 .0 ≡ stagesAt (c .before .before .before .before .before .before .args .sheet .now)
+abbrev staged : tie.After-section3 → tie.After-n2
+staged c = c .before .before
+
+abbrev blocked : tie.After-section4 → tie.After-n3
+blocked c = c .before .before
+
+abbrev sheet-1 : tie.After-section → List ℕ
+sheet-1 c = c .before .before .before .args .sheet .now
+
+abbrev sheet-2 : tie.After-section2 → List ℕ
+sheet-2 c = sheet-1 (placed c .before .before)
+
+abbrev sheet-3 : tie.After-section3 → List ℕ
+sheet-3 c = sheet-2 (staged c .before .before)
+
+abbrev sheet-4 : tie.After-section4 → List ℕ
+sheet-4 c = sheet-3 (blocked c .before .before)
+
+abbrev stages-at : tie.After-n → ℕ
+stages-at d = 1 + placeWords * d .n .given .0 .0
+
+abbrev blocks-at : tie.After-n2 → ℕ
+blocks-at d = stages-at (placed (d .before .before)) + 1 + stageWords * d .n2 .given .0 .0
+
+abbrev offices-at : tie.After-n3 → ℕ
+offices-at d = blocks-at (staged (d .before .before)) + 1 + blockWords * d .n3 .given .0 .0
+
+-- nothing is due where one section is passed, and two, three and all four
+one : (d : tie.After-n) → let s = sheet-1 (d .before .before) in Come s (stages-at d) (stagesAt s) (from s 3)
 unfolding stagesAt
-one-at c = omega (arith, one c)
+one d = let c = d .before .before in past 1 mostPlaces placeWords _ (words _ (c .before .if1 .left)) (c .section .ensures) _ (d .n .given .1)
 
-two : (c : tie.After-known-told3) → Stood (c .before .before .before .before .before .before .before .before .before .before .args .sheet .now) (stagesAt (c .before .before .before .before .before .before .before .before .before .before .args .sheet .now)) 0 8192 3 (c .before .n2 .given .0 .0)
-two c = stood _ _ _ _ _ _ (rw (one-at (c .before .before .before .before)) at (sym (c .before .n2 .given .1) ∙ c .before .before .before .section2 .ensures))
-
-two-at : (c : tie.After-known-told3) → 1 + 2 * c .before .before .before .before .before .n .given .0 .0 + 1 + 3 * c .before .n2 .given .0 .0 ≡ blocksAt (c .before .before .before .before .before .before .before .before .before .before .args .sheet .now)
+two : (d : tie.After-n2) → let s = sheet-2 (d .before .before) in Come s (blocks-at d) (blocksAt s) (from s 2)
 unfolding blocksAt
-two-at c = omega (arith, two c, one-at (c .before .before .before .before))
+two d = let c = d .before .before in past 0 mostStages stageWords _ (one (placed c)) (c .section2 .ensures) _ (d .n2 .given .1)
 
-three : (c : tie.After-known-told5) → Stood (c .before .before .before .before .before .before .before .before .before .before .before .before .before .before .args .sheet .now) (blocksAt (c .before .before .before .before .before .before .before .before .before .before .before .before .before .before .args .sheet .now)) 0 262144 6 (c .before .n3 .given .0 .0)
-three c = stood _ _ _ _ _ _ (rw (two-at (c .before .before .before .before)) at (sym (c .before .n3 .given .1) ∙ c .before .before .before .section3 .ensures))
-
-three-at : (c : tie.After-known-told5) → 1 + 2 * c .before .before .before .before .before .before .before .before .before .n .given .0 .0 + 1 + 3 * c .before .before .before .before .before .n2 .given .0 .0 + 1 + 6 * c .before .n3 .given .0 .0 ≡ officesAt (c .before .before .before .before .before .before .before .before .before .before .before .before .before .before .args .sheet .now)
+three : (d : tie.After-n3) → let s = sheet-3 (d .before .before) in Come s (offices-at d) (officesAt s) (from s 1)
 unfolding officesAt
-three-at c = omega (arith, three c, two-at (c .before .before .before .before))
+three d = let c = d .before .before in past 0 mostBlocks blockWords _ (two (staged c)) (c .section3 .ensures) _ (d .n3 .given .1)
 
-four : (c : tie.After-known-told7) → Stood (c .before .before .before .before .before .before .before .before .before .before .before .before .before .before .before .before .before .before .args .sheet .now) (officesAt (c .before .before .before .before .before .before .before .before .before .before .before .before .before .before .before .before .before .before .args .sheet .now)) 0 4096 1 (c .before .n4 .given .0 .0)
-four c = stood _ _ _ _ _ _ (rw (three-at (c .before .before .before .before)) at (sym (c .before .n4 .given .1) ∙ c .before .before .before .section4 .ensures))
-
-ends : (c : tie.After-known-told7) → 1 + 2 * c .before .before .before .before .before .before .before .before .before .before .before .before .before .n .given .0 .0 + 1 + 3 * c .before .before .before .before .before .before .before .before .before .n2 .given .0 .0 + 1 + 6 * c .before .before .before .before .before .n3 .given .0 .0 + 1 + c .before .n4 .given .0 .0 ≡ endsAt (c .before .before .before .before .before .before .before .before .before .before .before .before .before .before .before .before .before .before .args .sheet .now)
+four : (d : tie.After-n4) → let c = d .before .before in Come (sheet-4 c) (offices-at (blocked c) + 1 + d .n4 .given .0 .0) (endsAt (sheet-4 c)) (from (sheet-4 c) 0)
 unfolding endsAt
-ends c = omega (arith, four c, three-at (c .before .before .before .before))
+four d = let c = d .before .before in simp one-mul at (past 0 mostOffices officeWords _ (three (blocked c)) (c .section4 .ensures) _ (d .n4 .given .1))
 
 returns : tie.Need-returns
-unfolding sections
-returns c = rw (ne-eqb (length (c .before .before .args .sheet .now) % 4) 0 (c .if1 .taken))
+returns c = no-words _ (c .if1 .taken)
 
 section-requires : tie.Need-section-requires
 section-requires c κs = search needs
@@ -56,16 +72,13 @@ enum-known-d : tie.Need-enum-known-d
 enum-known-d c = search needs
 
 returns-2 : tie.Need-returns-2
-unfolding sections
-returns-2 c =
-    let (j, e, f) = refused-by (c .before .before .before .before .before .before .args .sheet .now) 0 1 1024 2 _ (sym (c .before .d .given .1) ∙ c .before .before .before .section .ensures) in
-    rw (eq-eqb (length (c .before .before .before .before .before .before .args .sheet .now) % 4) 0 (c .before .before .before .before .if1 .left), f) (ap Refused e)
+returns-2 c = let d = c .before in let e = d .before .before in refused 1 mostPlaces placeWords _ (words _ (e .before .if1 .left)) (e .section .ensures) _ (d .d .given .1)
 
 mul-stages-at : tie.Need-mul-stages-at
-mul-stages-at c = omega (arith, one c)
+mul-stages-at c = omega (arith, one (c .before))
 
 add-stages-at : tie.Need-add-stages-at
-add-stages-at c = omega (arith, one c)
+add-stages-at c = omega (arith, one (c .before))
 
 section-requires-2 : tie.Need-section-requires-2
 section-requires-2 c κs = search needs
@@ -77,19 +90,16 @@ enum-known-d-2 : tie.Need-enum-known-d-2
 enum-known-d-2 c = search needs
 
 returns-3 : tie.Need-returns-3
-unfolding sections
-returns-3 c =
-    let (j, e, f) = refused-by (c .before .before .before .before .before .before .before .before .before .before .args .sheet .now) (stagesAt (c .before .before .before .before .before .before .before .before .before .before .args .sheet .now)) 0 8192 3 _ (rw (one-at (c .before .before .before .before)) at (sym (c .before .d2 .given .1) ∙ c .before .before .before .section2 .ensures)) in
-    rw (eq-eqb (length (c .before .before .before .before .before .before .before .before .before .before .args .sheet .now) % 4) 0 (c .before .before .before .before .before .before .before .before .if1 .left), one (c .before .before .before .before) .clear, f) (ap Refused e)
+returns-3 c = let d = c .before in let e = d .before .before in refused 0 mostStages stageWords _ (one (placed e)) (e .section2 .ensures) _ (d .d2 .given .1)
 
 add-blocks-at : tie.Need-add-blocks-at
-add-blocks-at c = omega (arith, two c, one (c .before .before .before .before))
+add-blocks-at c = omega (arith, two (c .before))
 
 mul-blocks-at : tie.Need-mul-blocks-at
-mul-blocks-at c = omega (arith, two c, one (c .before .before .before .before))
+mul-blocks-at c = omega (arith, two (c .before))
 
 add-blocks-at-2 : tie.Need-add-blocks-at-2
-add-blocks-at-2 c = omega (arith, two c, one (c .before .before .before .before))
+add-blocks-at-2 c = omega (arith, two (c .before))
 
 section-requires-3 : tie.Need-section-requires-3
 section-requires-3 c κs = search needs
@@ -101,19 +111,16 @@ enum-known-d-3 : tie.Need-enum-known-d-3
 enum-known-d-3 c = search needs
 
 returns-4 : tie.Need-returns-4
-unfolding sections
-returns-4 c =
-    let (j, e, f) = refused-by (c .before .before .before .before .before .before .before .before .before .before .before .before .before .before .args .sheet .now) (blocksAt (c .before .before .before .before .before .before .before .before .before .before .before .before .before .before .args .sheet .now)) 0 262144 6 _ (rw (two-at (c .before .before .before .before)) at (sym (c .before .d3 .given .1) ∙ c .before .before .before .section3 .ensures)) in
-    rw (eq-eqb (length (c .before .before .before .before .before .before .before .before .before .before .before .before .before .before .args .sheet .now) % 4) 0 (c .before .before .before .before .before .before .before .before .before .before .before .before .if1 .left), one (c .before .before .before .before .before .before .before .before) .clear, two (c .before .before .before .before) .clear, f) (ap Refused e)
+returns-4 c = let d = c .before in let e = d .before .before in refused 0 mostBlocks blockWords _ (two (staged e)) (e .section3 .ensures) _ (d .d3 .given .1)
 
 add-offices-at : tie.Need-add-offices-at
-add-offices-at c = omega (arith, three c, two (c .before .before .before .before), one (c .before .before .before .before .before .before .before .before))
+add-offices-at c = omega (arith, three (c .before))
 
 mul-offices-at : tie.Need-mul-offices-at
-mul-offices-at c = omega (arith, three c, two (c .before .before .before .before), one (c .before .before .before .before .before .before .before .before))
+mul-offices-at c = omega (arith, three (c .before))
 
 add-offices-at-2 : tie.Need-add-offices-at-2
-add-offices-at-2 c = omega (arith, three c, two (c .before .before .before .before), one (c .before .before .before .before .before .before .before .before))
+add-offices-at-2 c = omega (arith, three (c .before))
 
 section-requires-4 : tie.Need-section-requires-4
 section-requires-4 c κs = search needs
@@ -125,24 +132,23 @@ enum-known-d-4 : tie.Need-enum-known-d-4
 enum-known-d-4 c = search needs
 
 returns-5 : tie.Need-returns-5
-unfolding sections
-returns-5 c =
-    let (j, e, f) = refused-by (c .before .before .before .before .before .before .before .before .before .before .before .before .before .before .before .before .before .before .args .sheet .now) (officesAt (c .before .before .before .before .before .before .before .before .before .before .before .before .before .before .before .before .before .before .args .sheet .now)) 0 4096 1 _ (rw (three-at (c .before .before .before .before)) at (sym (c .before .d4 .given .1) ∙ c .before .before .before .section4 .ensures)) in
-    rw (eq-eqb (length (c .before .before .before .before .before .before .before .before .before .before .before .before .before .before .before .before .before .before .args .sheet .now) % 4) 0 (c .before .before .before .before .before .before .before .before .before .before .before .before .before .before .before .before .if1 .left), one (c .before .before .before .before .before .before .before .before .before .before .before .before) .clear, two (c .before .before .before .before .before .before .before .before) .clear, three (c .before .before .before .before) .clear, f) (ap Refused e)
+returns-5 c = let d = c .before in let e = d .before .before in refused 0 mostOffices officeWords _ (three (blocked e)) (e .section4 .ensures) _ (d .d4 .given .1)
 
 add-if2 : tie.Need-add-if2
-add-if2 c = omega (arith, four c, three (c .before .before .before .before), two (c .before .before .before .before .before .before .before .before), one (c .before .before .before .before .before .before .before .before .before .before .before .before))
+add-if2 c = omega (arith, four (c .before))
 
 add-if2-2 : tie.Need-add-if2-2
-add-if2-2 c = omega (arith, four c, three (c .before .before .before .before), two (c .before .before .before .before .before .before .before .before), one (c .before .before .before .before .before .before .before .before .before .before .before .before))
+add-if2-2 c = omega (arith, four (c .before))
 
 returns-6 : tie.Need-returns-6
-unfolding sections
-returns-6 c = rw (eq-eqb (length (c .before .before .before .before .before .before .before .before .before .before .before .before .before .before .before .before .before .before .before .args .sheet .now) % 4) 0 (c .before .before .before .before .before .before .before .before .before .before .before .before .before .before .before .before .before .if1 .left), one (c .before .before .before .before .before .before .before .before .before .before .before .before .before) .clear, two (c .before .before .before .before .before .before .before .before .before) .clear, three (c .before .before .before .before .before) .clear, four (c .before) .clear, ne-eqb (endsAt (c .before .before .before .before .before .before .before .before .before .before .before .before .before .before .before .before .before .before .before .args .sheet .now)) (length (c .before .before .before .before .before .before .before .before .before .before .before .before .before .before .before .before .before .before .before .args .sheet .now) / 4) (λ e. c .if2 .taken (omega (arith, ends (c .before)))))
+returns-6 c = left-over (four (c .before .before)) (c .if2 .taken)
 
 returns-7 : tie.Need-returns-7
-unfolding sections
-returns-7 c = rw (eq-eqb (length (c .before .before .before .before .before .before .before .before .before .before .before .before .before .before .before .before .before .before .before .args .sheet .now) % 4) 0 (c .before .before .before .before .before .before .before .before .before .before .before .before .before .before .before .before .before .if1 .left), one (c .before .before .before .before .before .before .before .before .before .before .before .before .before) .clear, two (c .before .before .before .before .before .before .before .before .before) .clear, three (c .before .before .before .before .before) .clear, four (c .before) .clear, eq-eqb (endsAt (c .before .before .before .before .before .before .before .before .before .before .before .before .before .before .before .before .before .before .before .args .sheet .now)) (length (c .before .before .before .before .before .before .before .before .before .before .before .before .before .before .before .before .before .before .before .args .sheet .now) / 4) (omega (arith, ends (c .before)))) (counts-are _ _ _ _ _ (one (c .before .before .before .before .before .before .before .before .before .before .before .before .before) .count) (two (c .before .before .before .before .before .before .before .before .before) .count) (three (c .before .before .before .before .before) .count) (four (c .before) .count))
+returns-7 c =
+    let o = c .before .before in
+    let b = blocked (o .before .before) in
+    let t = staged (b .before .before) in
+    all-passed (one (placed (t .before .before)) .at) (two t .at) (three b .at) (four o) (c .if2 .left)
 
 pub sections-spec : {M : Type 1} → statement M
 sections-spec =

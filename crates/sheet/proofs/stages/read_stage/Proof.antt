@@ -1,4 +1,4 @@
--- `sheet::stages::read_stage` meets its contract.
+-- `sheet::stages::read_stage` meets its contract: each field is the map's word.
 use native.Mathlib.Omega.{arith}
 use borrow.Author.Needs.{needs}
 use Rattle.paper.specs.Sheet.{mapOf}
@@ -32,7 +32,11 @@ word-requires-3 c κs = search needs
 
 returns : tie.Need-returns
 unfolding mapOf
-returns c = record { tail = word-is _ _ _ _ (c .before .before .word .ensures) (omega arith); head = word-is _ _ _ _ (c .before .word2 .ensures) (omega arith); furlongs = word-is _ _ _ _ (c .word3 .ensures) (omega arith) }
+returns c = record {
+  tail = word-is _ _ _ _ (c .before .before .word .ensures) (omega arith);
+  head = word-is _ _ _ _ (c .before .word2 .ensures) (omega arith);
+  furlongs = word-is _ _ _ _ (c .word3 .ensures) (omega arith);
+}
 
 pub read-stage-spec : {M : Type 1} → statement M
 read-stage-spec =

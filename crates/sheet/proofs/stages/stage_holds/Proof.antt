@@ -30,7 +30,7 @@ returns-4 c m i P S = rw (lt-ltb (m .tail i) (m .places) (omega (arith, S, P)), 
 
 returns-5 : tie.Need-returns-5
 unfolding stageHolds
-returns-5 c m i P S = rw (lt-ltb (m .tail i) (m .places) (omega (arith, S, P)), lt-ltb (m .head i) (m .places) (omega (arith, S, P)), ne-eqb (m .tail i) (m .head i) (λ e. c .before .before .before .if3 .left (omega (arith, S))), le-leb 1 (m .furlongs i) (omega (arith, S)), S .furlongs)
+returns-5 c m i P S = let d = c .before .before in rw (lt-ltb (m .tail i) (m .places) (omega (arith, S, P)), lt-ltb (m .head i) (m .places) (omega (arith, S, P)), ne-eqb (m .tail i) (m .head i) (λ e. d .before .if3 .left (omega (arith, S))), le-leb 1 (m .furlongs i) (omega (arith, S)), S .furlongs)
 
 pub stage-holds-spec : {M : Type 1} → statement M
 stage-holds-spec =

@@ -1,148 +1,217 @@
--- `truth::columns::columns` meets its contract. The invariant is `Progress`: the first v columns are stored and judged.
-use mathlib.Core.Path.{_≡_, refl, sym, _∙_}
+-- `truth::columns::columns` meets its contract. The invariant is `Progress`, on any map that was surveyed: the first v columns are stored and judged.
+use mathlib.Core.Path.{_≡_, sym, _∙_}
 use mathlib.Core.List.{List}
 use Prim.Native.Nat.{ℕ, _-_, _*_, _≤_}
 use native.Mathlib.Nat.{mul-le-mul}
 use native.Mathlib.Omega.{arith}
+use borrow.Author.Tests.{not-true, not-false}
 use borrow.Author.Needs.{needs}
-use lib.ListN.{replicate, length-replicate, length, getD}
+use lib.ListN.{replicate, length-replicate, length}
+use Rattle.paper.specs.Sizes.{mostPlaces, mostBlocks}
+use Rattle.paper.specs.Map.{Map}
 use Rattle.paper.specs.Verdict.{area}
-use Rattle.paper.specs.Sheet.{mapOf}
-use Rattle.paper.specs.Sizes.{mostPlaces}
-use Rattle.paper.proofs.LaidOut.{LaidOut}
-use Rattle.roads.specs.Towards.{Towards}
-use Rattle.quadtree.proofs.Words.{standing, laid}
-use Rattle.truth.proofs.Scans.{zeros, cut-off, all-near}
+use Rattle.paper.proofs.Laid.{lawful-laid}
+use Rattle.quadtree.proofs.Words.{standing}
+use Rattle.truth.specs.Roads.{Reached, Surveyed}
+use Rattle.truth.proofs.Scans.{zeros}
 use Rattle.truth.proofs.Progress.{Progress, progress-none, progress-more, end-cut-off, end-judged}
+use Rattle.truth.proofs.Surveyed.{counted-roads}
 use Rattle.truth.proofs.columns.columns.Statement.{statement}
 use Rattle.truth.proofs.columns.columns.Tie as tie
 
 abbrev Inv-loop : tie.InvT-loop
-Inv-loop sheet counts first tails heads lengths last previous distances₀ places marks₀ column₀ fault₀ v₀ distances marks column fault v =
-    (places ≡ counts .places) × (v ≤ places) × (length column ≡ 1024) × (length marks ≡ 262144) × Progress (mapOf sheet) places v distances₀ distances marks fault
+Inv-loop ground counts first tails heads lengths last previous distances₀ places marks₀ column₀ fault₀ v₀ distances marks column fault v =
+    (v ≤ counts .places) × (length column ≡ mostPlaces) × (length marks ≡ mostBlocks)
+    × ((m : Map) → Surveyed ground first tails heads lengths last previous m → Progress m (counts .places) v distances₀ distances marks fault)
 
 abbrev μ-loop : tie.MeasureT-loop
-μ-loop sheet counts first tails heads lengths last previous distances₀ places marks₀ column₀ fault₀ v₀ distances marks column fault v = places - v
+μ-loop ground counts first tails heads lengths last previous distances₀ places marks₀ column₀ fault₀ v₀ distances marks column fault v = places - v
+
+-- the places, each by the one before it
+abbrev start : tie.After-none Inv-loop μ-loop → tie.Start Inv-loop μ-loop
+start c = c .before .before .before .before .before .before .before .before .before
+
+abbrev begin : tie.At-loop Inv-loop μ-loop → tie.Start Inv-loop μ-loop
+begin c = start (c .before)
+
+abbrev entered : tie.After-is-reached Inv-loop μ-loop → tie.In-loop Inv-loop μ-loop
+entered c = c .before .before
+
+abbrev head : tie.After-is-reached Inv-loop μ-loop → tie.At-loop Inv-loop μ-loop
+head c = entered c .before
+
+abbrev cut : tie.Then1 Inv-loop μ-loop → tie.After-is-reached Inv-loop μ-loop
+cut c = c .before .before
+
+abbrev reached : tie.Else1 Inv-loop μ-loop → tie.After-is-reached Inv-loop μ-loop
+reached c = c .before .before
+
+abbrev passed : tie.After-column3 Inv-loop μ-loop → tie.Else1 Inv-loop μ-loop
+passed c = c .before .before
+
+abbrev stored : tie.After-column4 Inv-loop μ-loop → tie.After-store-column Inv-loop μ-loop
+stored c = c .before .before .before
+
+abbrev filled : tie.After-column4 Inv-loop μ-loop → tie.After-is-reached Inv-loop μ-loop
+filled c = reached (passed (stored c .before))
+
+abbrev judged : tie.After-column-fault Inv-loop μ-loop → tie.After-column4 Inv-loop μ-loop
+judged c = c .before .before
+
+abbrev ended : tie.After-marks3 Inv-loop μ-loop → tie.After-loop Inv-loop μ-loop
+ended c = c .before
+
+-- a map that was surveyed has as many places and blocks as are counted
+abbrev SurveyedAt : tie.Start Inv-loop μ-loop → Map → Type 0
+SurveyedAt s = let a = s .args in Surveyed (a .ground .now) (a .first .now) (a .tails .now) (a .heads .now) (a .lengths .now) (a .last .now) (a .previous .now)
+
+places-are : (s : tie.Start Inv-loop μ-loop) (m : Map) → SurveyedAt s m → s .args .counts .places ≡ m .places
+places-are s m S = standing (s .pre .0 .0) .places ∙ sym (S .charted .ground .places)
+
+blocks-are : (s : tie.Start Inv-loop μ-loop) (m : Map) → SurveyedAt s m → s .args .counts .blocks ≡ m .blocks
+blocks-are s m S = standing (s .pre .0 .0) .blocks ∙ sym (S .charted .ground .blocks)
+
+area-long : (s : tie.Start Inv-loop μ-loop) (m : Map) → SurveyedAt s m → area m ≤ length (s .args .distances .now)
+area-long s m S = rw (places-are s m S) at (s .pre .0 .1)
+
+-- what holds at the head of the loop on one such map, and that the table and the column have room
+known : (c : tie.At-loop Inv-loop μ-loop) → let s = begin c in
+    Progress (s .pre .1 .map) (s .args .counts .places) (c .loop .v) (s .args .distances .now) (c .loop .distances) (c .loop .marks) (c .loop .fault)
+known c = let survey = begin c .pre .1 in c .loop .inv .3 (survey .map) (survey .surveyed)
+
+places-most : (c : tie.At-loop Inv-loop μ-loop) → begin c .args .counts .places ≤ mostPlaces
+places-most c = standing (begin c .pre .0 .0) .within .places
+
+area-room : (c : tie.At-loop Inv-loop μ-loop) → let n = begin c .args .counts .places in (n * n ≤ length (c .loop .distances)) × (n * n ≤ mostPlaces * mostPlaces)
+area-room c = let p = places-most c in omega (arith, begin c .pre .0 .1, known c .size, mul-le-mul p p)
+
+-- the column keeps its length, and tells whether each place has a road to v
+abbrev columnOf : tie.After-is-reached Inv-loop μ-loop → List ℕ
+columnOf c = c .is-reached .last .1 .1 .1 .1 .1 .1 .0
+
+column-long : (c : tie.After-is-reached Inv-loop μ-loop) → length (columnOf c) ≡ mostPlaces
+column-long c = c .is-reached .kept .1 .1 .1 .1 .1 .1 .0 ∙ head c .loop .inv .1
+
+reach : (c : tie.After-is-reached Inv-loop μ-loop) → let b = head c in (m : Map) → SurveyedAt (begin b) m
+    → Reached m (begin b .args .counts .places) (b .loop .v) (columnOf c) (c .is-reached .result)
+reach c m S = c .is-reached .ensures m (counted-roads (begin (head c) .pre .0 .0) S)
+
+none-requires : tie.Need-none-requires Inv-loop μ-loop
+none-requires c κs = search needs
 
 loop-holds : tie.Need-loop-holds Inv-loop μ-loop
-loop-holds c =
-    let s = c .before .before .before .before .before .before .before .before in
-    let R = s .pre .0 in
-    let L = laid R (λ k p. omega (arith, c .before .before .before .before .before .before .before .shared-slice-known .given k)) in
-    let marks : List ℕ = replicate 262144 0 in
-    let column : List ℕ = replicate 1024 0 in (
-      refl,
-      omega arith,
-      length-replicate {A = ℕ} 1024 0,
-      length-replicate {A = ℕ} 262144 0,
-      progress-none _ _ _ marks _ (standing R .places) (omega (arith, L .blocks, length-replicate {A = ℕ} 262144 0)) (zeros 262144),
-    )
+loop-holds c = (omega arith, length-replicate {A = ℕ} mostPlaces 0, length-replicate {A = ℕ} mostBlocks 0, none-gone)
+  where
+    s : tie.Start Inv-loop μ-loop
+    s = start c
 
--- what holds at the head of the loop: the sheet is laid out, and the table and the column have room
-laid-at : (c : tie.At-loop Inv-loop μ-loop) → LaidOut (mapOf (c .before .before .before .before .before .before .before .before .before .args .sheet .now))
-laid-at c = laid (c .before .before .before .before .before .before .before .before .before .pre .0) (λ k p. omega (arith, c .before .before .before .before .before .before .before .before .shared-slice-known .given k))
+    none-gone : (m : Map) → SurveyedAt s m → Progress m (s .args .counts .places) 0 (s .args .distances .now) (s .args .distances .now) (replicate mostBlocks 0) (c .none .result)
+    none-gone m S =
+        progress-none _ _ _ (replicate mostBlocks 0) _ (c .none .ensures .0 ∙ places-are s m S)
+        (omega (arith, blocks-are s m S, standing (s .pre .0 .0) .within .blocks, length-replicate {A = ℕ} mostBlocks 0)) (zeros mostBlocks)
 
-places-most : (c : tie.At-loop Inv-loop μ-loop) → let n = c .before .before .before .before .before .before .before .before .before .args .counts .places in (n ≤ mostPlaces) × (n ≤ length (c .loop .column))
-places-most c = omega (arith, laid-at c .places, (standing (c .before .before .before .before .before .before .before .before .before .pre .0) .places), c .loop .inv .2)
+slice-aggregate-is-reached : tie.Need-slice-aggregate-is-reached Inv-loop μ-loop
+slice-aggregate-is-reached c = sym (c .before .before .loop .inv .1)
 
-area-room : (c : tie.At-loop Inv-loop μ-loop) → let n = c .before .before .before .before .before .before .before .before .before .args .counts .places in (n * n ≤ length (c .loop .distances)) × (n * n ≤ mostPlaces * mostPlaces)
-area-room c = let p = places-most c .0 in omega (arith, c .before .before .before .before .before .before .before .before .before .pre .1 .1 .1, c .loop .inv .4 .size, mul-le-mul p p)
-
-area-long : (c : tie.At-loop Inv-loop μ-loop) → let a = c .before .before .before .before .before .before .before .before .before .args in area (mapOf (a .sheet .now)) ≤ length (a .distances .now)
-area-long c = rw (standing (c .before .before .before .before .before .before .before .before .before .pre .0) .places) at (c .before .before .before .before .before .before .before .before .before .pre .1 .1 .1)
-
--- `towards` keeps the column's length
-column-long : (c : tie.After-towards Inv-loop μ-loop) → length (c .towards .last .1 .1 .1 .1 .1 .1 .0) ≡ 1024
-column-long c = c .towards .kept .1 .1 .1 .1 .1 .1 .0 ∙ c .before .before .before .loop .inv .2
-
--- the column holds the distances to v, or `far`
-distances-are : (c : tie.After-towards Inv-loop μ-loop) → let a = c .before .before .before .before .before .before .before .before .before .before .before .before .args in Towards (mapOf (a .sheet .now)) (a .counts .places) (c .before .before .before .loop .v) (λ u. getD (c .towards .last .1 .1 .1 .1 .1 .1 .0) u 0)
-distances-are c = let r = c .before .before .before .before .before .before .before .before .before .before .before .before .pre .1 .1 .0 in c .towards .ensures .1 _ (r .lists) (r .starts) (r .goes)
-
-slice-aggregate-towards : tie.Need-slice-aggregate-towards Inv-loop μ-loop
-slice-aggregate-towards c = sym (c .before .before .loop .inv .2)
-
-towards-requires : tie.Need-towards-requires Inv-loop μ-loop
-towards-requires c κs =
-    let r = c .before .before .before .before .before .before .before .before .before .before .before .pre .1 .1 .0 in
-    (r .ready, (r .entered, (c .before .loop-test .taken, omega (arith, places-most (c .before .before)))))
-
-slice-aggregate-is-cut-off : tie.Need-slice-aggregate-is-cut-off Inv-loop μ-loop
-slice-aggregate-is-cut-off c = sym (column-long (c .before .before))
-
-is-cut-off-requires : tie.Need-is-cut-off-requires Inv-loop μ-loop
-is-cut-off-requires c κs = omega (arith, places-most (c .before .before .before .before .before), column-long (c .before .before))
+is-reached-requires : tie.Need-is-reached-requires Inv-loop μ-loop
+is-reached-requires c κs =
+    let b = c .before .before in
+    let s = begin b in
+    let R = counted-roads (s .pre .0 .0) (s .pre .1 .surveyed) in
+    ((R .ready, R .entered), (c .before .loop-test .taken, omega (arith, places-most b, b .loop .inv .1)))
 
 mul-clear : tie.Need-mul-clear Inv-loop μ-loop
-mul-clear c = omega (arith, area-room (c .before .before .before .before .before .before .before .before))
+mul-clear c = omega (arith, area-room (head (cut (c .before))))
 
 clear-requires : tie.Need-clear-requires Inv-loop μ-loop
-clear-requires c κs = omega (arith, area-room (c .before .before .before .before .before .before .before .before))
+clear-requires c κs = omega (arith, area-room (head (cut (c .before))))
 
 same-length : tie.Need-same-length Inv-loop μ-loop
-same-length c = c .before .before .clear .kept .0 ∙ c .before .before .before .before .before .before .before .before .before .before .before .loop .inv .4 .size
+same-length c =
+    let d = c .before .before in
+    d .clear .kept .0 ∙ known (head (cut (d .before .before))) .size
 
 returns : tie.Need-returns Inv-loop μ-loop
-returns c =
-    let s = c .before .before .before .before .before .before .before .before .before .before .before .before .before .before .before .before .before .before .before .before in
-    let l = c .before .before .before .before .before .before .before .before .before .before .before .loop in
-    let w = cut-off _ _ _ _ (distances-are (c .before .before .before .before .before .before .before .before)) (sym (c .before .before .before .before .before .is-cut-off .ensures) ∙ c .before .before .before .before .if1 .taken) in
-    end-cut-off (s .args .sheet .now) (s .args .distances .now) _ _ _ (s .pre .0 .laid) (area-long (c .before .before .before .before .before .before .before .before .before .before .before)) _ _ (w .0) (standing (s .pre .0) .places) (l .inv .4) (w .1) (c .before .before .before .before .before .before .before .before .before .before .loop-test .taken) (w .2) _ (c .before .before .clear .ensures)
+returns c m S =
+    let d = c .before .before in
+    let t = d .before .before in
+    let r = cut t in
+    let b = head r in
+    let s = begin b in
+    let w = reach r m S .not-all (not-true _ (t .if1 .taken)) in
+    end-cut-off m (s .args .distances .now) _ _ _ (area-long s m S) _ _ (w .0) (places-are s m S) (b .loop .inv .3 m S)
+    (w .1) (entered r .loop-test .taken) (w .2) _ (d .clear .ensures)
 
 slice-aggregate-store-column : tie.Need-slice-aggregate-store-column Inv-loop μ-loop
-slice-aggregate-store-column c = sym (column-long (c .before .before .before .before .before .before))
+slice-aggregate-store-column c = sym (column-long (reached (passed c)))
 
 store-column-requires : tie.Need-store-column-requires Inv-loop μ-loop
-store-column-requires c κs = (c .before .before .before .before .before .before .before .before .loop-test .taken, places-most (c .before .before .before .before .before .before .before .before .before) .0, area-room (c .before .before .before .before .before .before .before .before .before) .0, omega (arith, places-most (c .before .before .before .before .before .before .before .before .before), column-long (c .before .before .before .before .before .before)))
+store-column-requires c κs =
+    let r = reached (passed c) in
+    let b = head r in
+    (entered r .loop-test .taken, places-most b, area-room b .0, omega (arith, places-most b, column-long r))
 
 slice-aggregate-column-fault : tie.Need-slice-aggregate-column-fault Inv-loop μ-loop
-slice-aggregate-column-fault c = sym (column-long (c .before .before .before .before .before .before .before .before .before .before))
+slice-aggregate-column-fault c = sym (column-long (filled c))
 
 slice-aggregate-column-fault-2 : tie.Need-slice-aggregate-column-fault-2 Inv-loop μ-loop
-slice-aggregate-column-fault-2 c = sym (c .before .before .before .before .before .before .before .before .before .before .before .before .before .before .loop .inv .3)
+slice-aggregate-column-fault-2 c = sym (head (filled (c .before)) .loop .inv .2)
 
 column-fault-requires : tie.Need-column-fault-requires Inv-loop μ-loop
 column-fault-requires c κs =
-    let s = c .before .before .before .before .before .before .before .before .before .before .before .before .before .before .before .before .before .before .before .before .before .before .before in
-    let l = c .before .before .before .before .before .before .before .before .before .before .before .before .before .before .loop in
-    let R = s .pre .0 in
-    (R, (s .pre .1 .0, (omega (arith, l .inv .4 .found _ (l .inv .4 .columns) .within, (standing R .places)), c .before .before .before .before .before .before .before .before .before .before .before .before .before .loop-test .taken, omega (arith, places-most (c .before .before .before .before .before .before .before .before .before .before .before .before .before .before), column-long (c .before .before .before .before .before .before .before .before .before .before .before)), omega (arith, l .inv .3, laid-at (c .before .before .before .before .before .before .before .before .before .before .before .before .before .before) .blocks, (standing R .blocks)))))
+    let r = filled (c .before) in
+    let b = head r in
+    let s = begin b in
+    let survey = s .pre .1 in
+    let P = known b in (
+      s .pre .0 .0,
+      (
+        record { map = survey .map; charted = survey .surveyed .charted },
+        (
+          omega (arith, P .found _ (P .columns) .within, places-are s (survey .map) (survey .surveyed)),
+          entered r .loop-test .taken,
+          omega (arith, places-most b, column-long r),
+          omega (arith, b .loop .inv .2, standing (s .pre .0 .0) .within .blocks),
+        ),
+      ),
+    )
 
 add-v : tie.Need-add-v Inv-loop μ-loop
-add-v c = omega (arith, c .before .before .before .before .before .before .before .before .before .before .before .before .before .before .before .loop-test .taken, places-most (c .before .before .before .before .before .before .before .before .before .before .before .before .before .before .before .before))
+add-v c = let r = filled (judged (c .before)) in omega (arith, entered r .loop-test .taken, places-most (head r))
 
 loop-less : tie.Need-loop-less Inv-loop μ-loop
 loop-less c = search needs
 
 loop-again : tie.Need-loop-again Inv-loop μ-loop
 loop-again c =
-    let s = c .before .before .before .before .before .before .before .before .before .before .before .before .before .before .before .before .before .before .before .before .before .before .before .before .before in
-    let l = c .before .before .before .before .before .before .before .before .before .before .before .before .before .before .before .before .loop in
-    let near = all-near _ _ _ _ (distances-are (c .before .before .before .before .before .before .before .before .before .before .before .before .before)) (sym (c .before .before .before .before .before .before .before .before .before .before .is-cut-off .ensures) ∙ c .before .before .before .before .before .before .before .before .before .if1 .left) in
-    let f = c .before .column-fault in (
-      l .inv .0,
-      omega (arith, c .before .before .before .before .before .before .before .before .before .before .before .before .before .before .before .loop-test .taken),
-      column-long (c .before .before .before .before .before .before .before .before .before .before .before .before .before),
-      f .kept .1 .1 .1 .1 .1 .1 .1 .0 ∙ l .inv .3,
-      progress-more (laid-at (c .before .before .before .before .before .before .before .before .before .before .before .before .before .before .before .before)) _ _ _ _ _ _ _ _ _ _ (standing (s .pre .0) .places) (c .before .before .before .before .before .before .before .before .before .before .before .before .before .before .before .loop-test .taken) (l .inv .4) near (c .before .before .before .before .before .before .store-column .ensures) (f .ensures .0) (f .ensures .1),
+    let f = c .before .column-fault in
+    let d = stored (judged (c .before)) in
+    let t = passed (d .before) in
+    let r = reached t in
+    let b = head r in (
+      omega (arith, entered r .loop-test .taken),
+      column-long r,
+      f .kept .1 .1 .1 .1 .1 .1 .1 .0 ∙ b .loop .inv .2,
+      λ m S. progress-more (lawful-laid (S .charted .lawful)) (S .charted .ground) _ _ _ _ _ _ _ _ _ _ (places-are (begin b) m S) (entered r .loop-test .taken) (b .loop .inv .3 m S)
+          (reach r m S .all (not-false _ (t .if1 .left))) (d .store-column .ensures) (f .ensures .0 m (S .charted)) (f .ensures .1),
     )
 
 slice-aggregate-final-number : tie.Need-slice-aggregate-final-number Inv-loop μ-loop
-slice-aggregate-final-number c = sym (c .before .before .loop .inv .3)
+slice-aggregate-final-number c = sym (ended c .before .loop .inv .2)
 
 final-number-requires : tie.Need-final-number-requires Inv-loop μ-loop
-final-number-requires c κs =
-    let s = c .before .before .before .before .before .before .before .before .before .before .before in
-    omega (arith, laid-at (c .before .before) .blocks, c .before .before .loop .inv .3, (standing (s .pre .0) .blocks))
+final-number-requires c κs = let b = ended c .before in omega (arith, b .loop .inv .2, standing (begin b .pre .0 .0) .within .blocks)
 
 same-length-2 : tie.Need-same-length-2 Inv-loop μ-loop
-same-length-2 c = c .before .before .before .loop .inv .4 .size
+same-length-2 c = known (ended (c .before) .before) .size
 
 returns-2 : tie.Need-returns-2 Inv-loop μ-loop
-returns-2 c =
-    let s = c .before .before .before .before .before .before .before .before .before .before .before .before in
-    let l = c .before .before .before .loop in
-    end-judged (s .args .sheet .now) (s .args .distances .now) _ _ _ (s .pre .0 .laid) (area-long (c .before .before .before)) _ _ _ _ (standing (s .pre .0) .places) (standing (s .pre .0) .blocks) (omega (arith, l .inv .1, c .before .before .loop-test .left)) (laid-at (c .before .before .before)) (l .inv .4) (c .final-number .ensures)
+returns-2 c m S =
+    let e = ended (c .before) in
+    let b = e .before in
+    let s = begin b in
+    end-judged m (s .args .distances .now) _ _ _ (area-long s m S) _ _ _ _ (places-are s m S) (blocks-are s m S) (omega (arith, b .loop .inv .0, e .loop-test .left))
+    (lawful-laid (S .charted .lawful)) (b .loop .inv .3 m S) (c .final-number .ensures)
 
 pub columns-spec : {M : Type 1} → statement M
 columns-spec =
@@ -150,11 +219,10 @@ columns-spec =
     (tie.spec
     Inv-loop
     μ-loop
+    none-requires
     loop-holds
-    slice-aggregate-towards
-    towards-requires
-    slice-aggregate-is-cut-off
-    is-cut-off-requires
+    slice-aggregate-is-reached
+    is-reached-requires
     mul-clear
     clear-requires
     same-length

@@ -9,16 +9,20 @@ use lib.Dec.{eqb}
 use lib.ListN.{getD}
 use Rattle.paper.specs.Test.{every}
 use Rattle.paper.proofs.Test.{every-false}
-use Rattle.truth.specs.Table.{used}
+use Rattle.truth.specs.Table.{used, allUsed}
 use Rattle.truth.proofs.Scans.{every-more}
 use Rattle.truth.proofs.slices.all_marked.Statement.{statement}
 use Rattle.truth.proofs.slices.all_marked.Tie as tie
 
 abbrev Inv-loop : tie.InvT-loop
-Inv-loop marks n b₀ b = (b ≤ n) × (every b (λ k. eqb (getD marks k 0) used) ≡ true)
+Inv-loop marks n b₀ b = (b ≤ n) × (allUsed b marks ≡ true)
 
 abbrev μ-loop : tie.MeasureT-loop
 μ-loop marks n b₀ b = n - b
+
+-- the head of the loop, from where a mark was read
+abbrev head : tie.After-shared-slice-known Inv-loop μ-loop → tie.At-loop Inv-loop μ-loop
+head c = c .before .before
 
 loop-holds : tie.Need-loop-holds Inv-loop μ-loop
 unfolding every
@@ -29,8 +33,9 @@ shared-slice-read-if1 c = search needs
 
 returns : tie.Need-returns Inv-loop μ-loop
 returns c =
-    let s = c .before .before .before .before in
-    sym (every-false (s .args .n) (λ k. eqb (getD (s .args .marks .now) k 0) used) (c .before .before .before .loop .b) (omega arith) (ne-eqb _ _ (c .if1 .taken)))
+    let h = head (c .before) in
+    let a = h .before .args in
+    sym (every-false (a .n) (λ b. eqb (getD (a .marks .now) b 0) used) (h .loop .b) (omega arith) (ne-eqb _ _ (c .if1 .taken)))
 
 add-b : tie.Need-add-b Inv-loop μ-loop
 add-b c = search needs
@@ -39,14 +44,13 @@ loop-less : tie.Need-loop-less Inv-loop μ-loop
 loop-less c = search needs
 
 loop-again : tie.Need-loop-again Inv-loop μ-loop
-loop-again c = (omega arith, every-more _ _ (c .before .before .before .loop .inv .1) (eq-eqb _ _ (c .if1 .left)))
+loop-again c = (omega arith, every-more _ _ (head (c .before) .loop .inv .1) (eq-eqb _ _ (c .if1 .left)))
 
 returns-2 : tie.Need-returns-2 Inv-loop μ-loop
 returns-2 c =
-    let l = c .before .loop in
-    let s = c .before .before in
-    let e : l .b ≡ s .args .n = omega arith in
-    sym (rw e at (l .inv .1))
+    let h = c .before in
+    let e : h .loop .b ≡ h .before .args .n = omega arith in
+    sym (rw e at (h .loop .inv .1))
 
 pub all-marked-spec : {M : Type 1} → statement M
 all-marked-spec =

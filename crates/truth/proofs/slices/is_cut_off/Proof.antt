@@ -20,6 +20,10 @@ Inv-loop column n w₀ w = (w ≤ n) × (any w (λ u. eqb (getD column u 0) far)
 abbrev μ-loop : tie.MeasureT-loop
 μ-loop column n w₀ w = n - w
 
+-- the head of the loop, from where a word was read
+abbrev head : tie.After-shared-slice-known Inv-loop μ-loop → tie.At-loop Inv-loop μ-loop
+head c = c .before .before
+
 loop-holds : tie.Need-loop-holds Inv-loop μ-loop
 unfolding any
 loop-holds c = (omega arith, refl)
@@ -32,9 +36,9 @@ shared-slice-read-if1 c = search needs
 
 returns : tie.Need-returns Inv-loop μ-loop
 returns c =
-    let s = c .before .before .before .before in
-    let w = c .before .before .before .loop .w in
-    sym (any-of (s .args .n) (λ u. eqb (getD (s .args .column .now) u 0) far) w (omega arith) (eq-eqb (getD (s .args .column .now) w 0) far (omega arith)))
+    let b = head (c .before) in
+    let a = b .before .args in
+    sym (any-of (a .n) (λ u. eqb (getD (a .column .now) u 0) far) (b .loop .w) (omega arith) (eq-eqb (getD (a .column .now) (b .loop .w) 0) far (omega arith)))
 
 add-w : tie.Need-add-w Inv-loop μ-loop
 add-w c = search needs
@@ -44,15 +48,14 @@ loop-less c = search needs
 
 loop-again : tie.Need-loop-again Inv-loop μ-loop
 loop-again c =
-    let l = c .before .before .before .loop in
-    (omega arith, any-more _ _ (l .inv .1) (ne-eqb (getD (c .before .before .before .before .args .column .now) (l .w) 0) far (omega arith)))
+    let b = head (c .before) in
+    (omega arith, any-more _ _ (b .loop .inv .1) (ne-eqb (getD (b .before .args .column .now) (b .loop .w) 0) far (omega arith)))
 
 returns-2 : tie.Need-returns-2 Inv-loop μ-loop
 returns-2 c =
-    let l = c .before .loop in
-    let s = c .before .before in
-    let e : l .w ≡ s .args .n = omega arith in
-    sym (rw e at (l .inv .1))
+    let b = c .before in
+    let e : b .loop .w ≡ b .before .args .n = omega arith in
+    sym (rw e at (b .loop .inv .1))
 
 pub is-cut-off-spec : {M : Type 1} → statement M
 is-cut-off-spec =

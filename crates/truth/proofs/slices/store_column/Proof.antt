@@ -50,9 +50,9 @@ loop-less c = search needs
 
 loop-again : tie.Need-loop-again Inv-loop μ-loop
 loop-again c =
-    let l = c .before .before .loop in
-    let s = c .before .before .before in
-    (omega arith, storing-more _ _ _ _ _ _ (s .pre .0) (omega arith) (omega (arith, l .inv .1 .size, s .pre .2)) (l .inv .1))
+    let b = c .before .before in
+    let s = b .before in
+    (omega arith, storing-more _ _ _ _ _ _ (s .pre .0) (omega arith) (omega (arith, b .loop .inv .1 .size, s .pre .2)) (b .loop .inv .1))
 
 same-length : tie.Need-same-length Inv-loop μ-loop
 same-length c = c .before .loop .inv .1 .size

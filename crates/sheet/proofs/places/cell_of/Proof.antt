@@ -1,10 +1,11 @@
--- `sheet::places::read_place` meets its contract.
+-- `sheet::places::cell_of` meets its contract: x and y are the map's words.
+use mathlib.Core.Path.{sym}
 use native.Mathlib.Omega.{arith}
 use borrow.Author.Needs.{needs}
 use Rattle.paper.specs.Sheet.{mapOf}
 use Rattle.sheet.proofs.Room.{word-is}
-use Rattle.sheet.proofs.places.read_place.Statement.{statement}
-use Rattle.sheet.proofs.places.read_place.Tie as tie
+use Rattle.sheet.proofs.places.cell_of.Statement.{statement}
+use Rattle.sheet.proofs.places.cell_of.Tie as tie
 
 mul-at : tie.Need-mul-at
 mul-at c = search needs
@@ -23,7 +24,7 @@ word-requires-2 c κs = search needs
 
 returns : tie.Need-returns
 unfolding mapOf
-returns c = record { x = word-is _ _ _ _ (c .before .word .ensures) (omega arith); y = word-is _ _ _ _ (c .word2 .ensures) (omega arith) }
+returns c = record { x = c .before .word .ensures; y = sym (word-is _ _ _ _ (c .word2 .ensures) (omega arith)) }
 
-pub read-place-spec : {M : Type 1} → statement M
-read-place-spec = tie.close (tie.spec mul-at add-at word-requires add-word word-requires-2 returns)
+pub cell-of-spec : {M : Type 1} → statement M
+cell-of-spec = tie.close (tie.spec mul-at add-at word-requires add-word word-requires-2 returns)
