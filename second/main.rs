@@ -1,44 +1,14 @@
 //! The independent second program: answers by the plainest means, written from document 01 alone.
 //! Its commands print what the proved program should print, make inputs, and test themselves.
 
-mod check;
-mod damage;
-mod damage_bytes;
-mod damage_truth;
-mod demands;
-mod draw;
-mod draw_net;
-mod draw_places;
-mod draw_trees;
-mod edges;
-mod edges_bytes;
-mod edges_layout;
-mod edges_truth;
-mod layout;
-mod limit_cases;
-mod limits;
-mod make;
-mod map;
-mod marked;
-mod measure;
-mod oracle;
-mod plain;
-mod probe;
-mod program;
-mod question;
-mod refusal;
-mod rng;
-mod roads;
+mod inputs;
+mod rules;
 mod selftest;
-mod sheet;
 mod tally;
-mod test_large;
-mod test_paper;
-mod test_random;
-mod test_readings;
-mod truth;
 
-use limits::*;
+use inputs::make;
+use rules::limits::*;
+use rules::{check, program, question};
 use std::io::{self, Read, Write};
 use std::path::Path;
 use std::process::ExitCode;

@@ -1,6 +1,6 @@
 //! The count of cases and failures, and of how often each refusal number was met.
 
-use crate::refusal::*;
+use crate::rules::refusal::*;
 use std::fmt;
 
 #[derive(Default)]

@@ -1,0 +1,141 @@
+//! Random nets of one-way stages in which every place can be reached from every other.
+
+use crate::inputs::rng::Rng;
+use crate::rules::limits::{LEAVING_MOST, LENGTHS};
+use crate::rules::measure::crow;
+use crate::rules::sheet::{Place, Stage};
+use std::collections::BTreeMap;
+
+#[derive(Clone, Copy, PartialEq)]
+pub enum Net {
+    /// One loop post through all places.
+    Loop,
+    /// Several loop posts, each begun and ended at places already reached.
+    Loops,
+    /// Two-way roads that branch.
+    TwoWayTree,
+    /// Two-way roads from place to place along the row of places.
+    Chain,
+}
+
+pub const NETS: [Net; 4] = [Net::Loop, Net::Loops, Net::TwoWayTree, Net::Chain];
+
+#[derive(Clone, Copy, PartialEq)]
+pub enum Lengths {
+    All(u32),
+    UpTo(u32),
+    ByCrow,
+}
+
+pub const LENGTH_STYLES: [Lengths; 6] = [
+    Lengths::All(1),
+    Lengths::UpTo(3),
+    Lengths::UpTo(20),
+    Lengths::UpTo(*LENGTHS.end()),
+    Lengths::All(*LENGTHS.end()),
+    Lengths::ByCrow,
+];
+
+/// Stages by (tail, head), which is also the order of the sheet.
+struct Drawing<'a> {
+    places: &'a [Place],
+    lengths: Lengths,
+    stages: BTreeMap<(usize, usize), u32>,
+    leaving: Vec<usize>,
+}
+
+pub fn stages(rng: &mut Rng, places: &[Place], net: Net, lengths: Lengths, extra: usize) -> Vec<Stage> {
+    let leaving = vec![0; places.len()];
+    let mut drawing = Drawing { places, lengths, stages: BTreeMap::new(), leaving };
+    match net {
+        Net::Loop => drawing.one_loop(rng),
+        Net::Loops => drawing.loops(rng),
+        Net::TwoWayTree => drawing.two_way_tree(rng),
+        Net::Chain => drawing.chain(rng),
+    }
+    for _ in 0..extra {
+        let (tail, head) = (rng.below(places.len()), rng.below(places.len()));
+        drawing.add(rng, tail, head);
+    }
+    let stage = |(&(tail, head), &length): (&(usize, usize), &u32)| Stage {
+        tail: tail as u32,
+        head: head as u32,
+        length,
+    };
+    drawing.stages.iter().map(stage).collect()
+}
+
+impl Drawing<'_> {
+    /// Adds the stage if the layout rules let it stand.
+    fn add(&mut self, rng: &mut Rng, tail: usize, head: usize) {
+        let full = self.leaving[tail] == LEAVING_MOST;
+        if tail == head || full || self.stages.contains_key(&(tail, head)) {
+            return;
+        }
+        let length = self.length(rng, tail, head);
+        self.stages.insert((tail, head), length);
+        self.leaving[tail] += 1;
+    }
+
+    fn length(&self, rng: &mut Rng, tail: usize, head: usize) -> u32 {
+        match self.lengths {
+            Lengths::All(length) => length,
+            Lengths::UpTo(most) => rng.between(*LENGTHS.start(), most),
+            Lengths::ByCrow => {
+                let crow = crow(self.places[tail], self.places[head]).0 as u32;
+                (crow / 16 + rng.between(0, crow / 32)).clamp(*LENGTHS.start(), *LENGTHS.end())
+            }
+        }
+    }
+
+    fn one_loop(&mut self, rng: &mut Rng) {
+        let count = self.places.len();
+        let mut order: Vec<usize> = (0..count).collect();
+        rng.shuffle(&mut order);
+        for i in 0..count {
+            self.add(rng, order[i], order[(i + 1) % count]);
+        }
+    }
+
+    fn loops(&mut self, rng: &mut Rng) {
+        let mut reached = 1;
+        while reached < self.places.len() {
+            let most = (self.places.len() - reached).min(4);
+            let fresh = 1 + rng.below(most);
+            let mut at = self.place_with_room(rng, reached);
+            for next in reached..reached + fresh {
+                self.add(rng, at, next);
+                at = next;
+            }
+            let back = rng.below(reached);
+            self.add(rng, at, back);
+            reached += fresh;
+        }
+    }
+
+    fn two_way_tree(&mut self, rng: &mut Rng) {
+        for next in 1..self.places.len() {
+            let from = self.place_with_room(rng, next);
+            self.add(rng, from, next);
+            self.add(rng, next, from);
+        }
+    }
+
+    fn chain(&mut self, rng: &mut Rng) {
+        let mut order: Vec<usize> = (0..self.places.len()).collect();
+        order.sort_by_key(|&u| (self.places[u].x, self.places[u].y));
+        for pair in order.windows(2) {
+            self.add(rng, pair[0], pair[1]);
+            self.add(rng, pair[1], pair[0]);
+        }
+    }
+
+    /// A place among the first so many from which one more stage may leave.
+    fn place_with_room(&mut self, rng: &mut Rng, among: usize) -> usize {
+        let mut place = rng.below(among);
+        while self.leaving[place] == LEAVING_MOST {
+            place = (place + 1) % among;
+        }
+        place
+    }
+}

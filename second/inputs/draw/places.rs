@@ -1,0 +1,81 @@
+//! Random places: distinct cells in shapes that strain the codes and the crow distances.
+
+use crate::inputs::rng::Rng;
+use crate::rules::limits::GRID_SIDE;
+use crate::rules::sheet::Place;
+
+#[derive(Clone, Copy, PartialEq)]
+pub enum Shape {
+    Spread,
+    Clusters,
+    Row,
+    Column,
+    Diagonal,
+    Patch,
+    Corners,
+}
+
+pub const SHAPES: [Shape; 7] = [
+    Shape::Spread,
+    Shape::Clusters,
+    Shape::Row,
+    Shape::Column,
+    Shape::Diagonal,
+    Shape::Patch,
+    Shape::Corners,
+];
+
+const EDGE: u32 = GRID_SIDE - 1;
+
+/// So many places of this shape; a shape that runs out of cells is filled up from the whole grid.
+pub fn places(rng: &mut Rng, shape: Shape, count: usize) -> Vec<Place> {
+    let anchor = anywhere(rng);
+    let mut places: Vec<Place> = Vec::new();
+    let mut tries = 0;
+    while places.len() < count {
+        tries += 1;
+        let next = if tries < 20 * count { one(rng, shape, anchor, places.len()) } else { anywhere(rng) };
+        if !places.contains(&next) {
+            places.push(next);
+        }
+    }
+    places
+}
+
+fn anywhere(rng: &mut Rng) -> Place {
+    Place::at(rng.between(0, EDGE), rng.between(0, EDGE))
+}
+
+fn one(rng: &mut Rng, shape: Shape, anchor: Place, made: usize) -> Place {
+    match shape {
+        Shape::Spread => anywhere(rng),
+        Shape::Clusters => {
+            let turn = (made as u32 % 3) * 300;
+            near(rng, Place::at((anchor.x + turn) % GRID_SIDE, (anchor.y + 2 * turn) % GRID_SIDE), 12)
+        }
+        Shape::Row => Place::at(rng.between(0, EDGE), anchor.y),
+        Shape::Column => Place::at(anchor.x, rng.between(0, EDGE)),
+        Shape::Diagonal => {
+            let step = rng.between(0, EDGE);
+            Place::at(step, step)
+        }
+        Shape::Patch => near(rng, anchor, 4),
+        Shape::Corners => corner(rng, made),
+    }
+}
+
+fn near(rng: &mut Rng, centre: Place, reach: u32) -> Place {
+    let x = (centre.x + rng.between(0, reach)).min(EDGE);
+    let y = (centre.y + rng.between(0, reach)).min(EDGE);
+    Place::at(x, y)
+}
+
+fn corner(rng: &mut Rng, made: usize) -> Place {
+    let ends = [0, EDGE];
+    if made < 4 {
+        return Place::at(ends[made % 2], ends[made / 2]);
+    }
+    // Cells about the corners and about the middle, where codes change most between neighbours.
+    let sides = [0, 1, EDGE - 1, EDGE, GRID_SIDE / 2 - 1, GRID_SIDE / 2];
+    Place::at(rng.pick(&sides), rng.pick(&sides))
+}

@@ -1,0 +1,162 @@
+//! The question: the layout, refusals 7 to 9, then the walk that lists the k nearest offices.
+
+use crate::rules::layout;
+use crate::rules::limits::*;
+use crate::rules::map::Map;
+use crate::rules::measure::Interval;
+use crate::rules::refusal::*;
+
+/// What a question returns besides the words of its slices.
+#[derive(Clone, Copy, PartialEq, Debug)]
+pub struct Outcome {
+    pub number: Number,
+    pub count: u64,
+    pub refinements: u64,
+}
+
+impl Outcome {
+    pub fn refused(number: Number) -> Outcome {
+        Outcome { number, count: 0, refinements: 0 }
+    }
+}
+
+/// An office that waits to be listed.
+#[derive(Clone, Copy, Debug)]
+pub struct Waiting {
+    pub number: usize,
+    pub place: usize,
+    pub via: usize,
+    pub walked: u64,
+    pub stages: u64,
+    pub interval: Interval,
+}
+
+impl Waiting {
+    fn low_key(&self) -> (u64, usize) {
+        (self.interval.low, self.number)
+    }
+
+    fn high_key(&self) -> (u64, usize) {
+        (self.interval.high, self.number)
+    }
+}
+
+/// Told of every refinement: the office before it and after it.
+pub type Watch<'a> = &'a mut dyn FnMut(&Waiting, &Waiting);
+
+pub fn question(bytes: &[u8], q: u64, k: u64, answer: &mut [u64], working: &mut [u64]) -> Outcome {
+    question_watched(bytes, q, k, answer, working, &mut |_, _| {})
+}
+
+pub fn question_watched(
+    bytes: &[u8],
+    q: u64,
+    k: u64,
+    answer: &mut [u64],
+    working: &mut [u64],
+    watch: Watch,
+) -> Outcome {
+    let sheet = match layout::read(bytes) {
+        Ok(sheet) => sheet,
+        Err(number) => return Outcome::refused(number),
+    };
+    if q >= sheet.places.len() as u64 {
+        return Outcome::refused(BAD_Q);
+    }
+    if k == 0 || k > sheet.offices.len() as u64 {
+        return Outcome::refused(BAD_K);
+    }
+    let answer_words = ANSWER_WORDS * k as usize;
+    let working_words = WORKING_WORDS * sheet.offices.len();
+    if answer.len() < answer_words || working.len() < working_words {
+        return Outcome::refused(SHORT_SLICES);
+    }
+    // The working words end as 0 on every way out of the walk, which keeps its own notes.
+    working[..working_words].fill(0);
+    answer[..answer_words].fill(0);
+    match walk(&Map::of(&sheet), q as usize, k as usize, watch) {
+        Ok((list, refinements)) => {
+            for (words, office) in answer.chunks_mut(ANSWER_WORDS).zip(&list) {
+                words.copy_from_slice(&answer_record(office));
+            }
+            Outcome { number: ACCEPTED, count: k, refinements }
+        }
+        Err(number) => Outcome::refused(number),
+    }
+}
+
+fn answer_record(office: &Waiting) -> [u64; ANSWER_WORDS] {
+    [office.number as u64, office.interval.low, office.interval.high, office.stages]
+}
+
+/// The offices listed, in order, and the total of refinements; k is at most the offices.
+fn walk(map: &Map, q: usize, k: usize, watch: Watch) -> Result<(Vec<Waiting>, u64), Number> {
+    let mut waiting = start(map, q)?;
+    let mut list = Vec::new();
+    let mut refinements = 0;
+    while list.len() < k {
+        let leader = leader_among(&waiting);
+        if comes_before_all_others(&waiting, leader) {
+            list.push(waiting.remove(leader));
+        } else {
+            let refined = refine(map, &waiting[leader])?;
+            watch(&waiting[leader], &refined);
+            waiting[leader] = refined;
+            refinements += 1;
+        }
+    }
+    Ok((list, refinements))
+}
+
+/// Every office with its first interval, all three tests for one before the next.
+pub fn start(map: &Map, q: usize) -> Result<Vec<Waiting>, Number> {
+    let mut waiting = Vec::new();
+    for (number, &place) in map.sheet.offices.iter().enumerate() {
+        let place = place as usize;
+        let interval = map.interval(q, place).ok_or(WALK_NO_BLOCK)?;
+        test_ends(0, interval, interval)?;
+        waiting.push(Waiting { number, place, via: q, walked: 0, stages: 0, interval });
+    }
+    Ok(waiting)
+}
+
+fn leader_among(waiting: &[Waiting]) -> usize {
+    let mut leader = 0;
+    for (i, office) in waiting.iter().enumerate() {
+        if office.low_key() < waiting[leader].low_key() {
+            leader = i;
+        }
+    }
+    leader
+}
+
+fn comes_before_all_others(waiting: &[Waiting], leader: usize) -> bool {
+    let last = waiting[leader].high_key();
+    waiting.iter().enumerate().all(|(i, other)| i == leader || last < other.low_key())
+}
+
+/// The office one stage further on its named road.
+pub fn refine(map: &Map, office: &Waiting) -> Result<Waiting, Number> {
+    if office.stages + 1 >= map.places() as u64 {
+        return Err(WALK_TOO_LONG);
+    }
+    let block = map.covering(office.via, office.place).ok_or(WALK_NO_BLOCK)?;
+    let stage = map.stage_named(block);
+    let walked = office.walked + u64::from(stage.length);
+    let via = stage.head as usize;
+    let onward = map.interval(via, office.place).ok_or(WALK_NO_BLOCK)?.beyond(walked);
+    let interval = office.interval.overlap(onward);
+    test_ends(walked, onward, interval)?;
+    Ok(Waiting { via, walked, stages: office.stages + 1, interval, ..*office })
+}
+
+/// 19 for what was worked out, then 18 for what would be kept.
+fn test_ends(walked: u64, found: Interval, kept: Interval) -> Result<(), Number> {
+    if walked > END_MOST || found.low > END_MOST || found.high > END_MOST {
+        return Err(WALK_TOO_FAR);
+    }
+    if kept.is_empty() {
+        return Err(WALK_EMPTY);
+    }
+    Ok(())
+}

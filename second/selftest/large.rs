@@ -1,0 +1,99 @@
+//! Self test: sheets at the layout maxima, and one record over each of them.
+
+use crate::inputs::draw::trees::tightest;
+use crate::inputs::limit_cases;
+use crate::inputs::marked::{block, stage};
+use crate::inputs::rng::Rng;
+use crate::rules::check::check;
+use crate::rules::layout;
+use crate::rules::limits::*;
+use crate::rules::map::Map;
+use crate::rules::program::{answer, input_of};
+use crate::rules::refusal::*;
+use crate::rules::roads::Roads;
+use crate::rules::sheet::{Block, Place, Sheet, Stage};
+use crate::selftest::probe::question_asked;
+use crate::tally::Tally;
+
+const SIDE: u32 = 32;
+const PLACES: u32 = SIDE * SIDE;
+const TREE: u32 = 256;
+const LEVEL: u32 = 6;
+
+pub fn run(tally: &mut Tally) {
+    let sheet = grand_sheet();
+    let bytes = sheet.to_bytes();
+    let counts = [sheet.places.len(), sheet.stages.len(), sheet.blocks.len(), sheet.offices.len()];
+    tally.same("the grand sheet's counts", counts, [1_024, 8_192, 262_144, 4_096]);
+    let number = check(&bytes, &mut vec![0; 1_024 * 1_024]);
+    tally.met_check(number);
+    tally.same("the grand sheet is true", number, ACCEPTED);
+    let (outcome, list) = question_asked(tally, "the grand sheet", &bytes, 5, 6);
+    let offices: Vec<u64> = list.chunks(ANSWER_WORDS).map(|record| record[0]).collect();
+    tally.same("the grand sheet's question", (outcome.number, offices), (0, vec![5, 1_029, 2_053, 3_077, 6, 1_030]));
+    tally.same("the grand sheet in the program", answer(&input_of(5, 6, &bytes)).as_str(), "refused 20\n");
+    one_over(tally, sheet);
+    full_sheet(tally);
+}
+
+/// Every count at its largest, and true: stages of length j lead j places on, so that the stage to
+/// the next place begins a shortest road to all others.
+fn grand_sheet() -> Sheet {
+    let mut sheet = Sheet {
+        places: (0..PLACES).map(|u| Place::at(u % SIDE * 32, u / SIDE * 32)).collect(),
+        stages: (0..PLACES).flat_map(stages_on).collect(),
+        blocks: Vec::new(),
+        offices: (0..4 * PLACES).map(|office| office % PLACES).collect(),
+    };
+    sheet.blocks = grand_blocks(&sheet);
+    sheet
+}
+
+fn stages_on(u: u32) -> Vec<Stage> {
+    let mut stages: Vec<Stage> = (1..=8).map(|j| stage([u, (u + j) % PLACES, j])).collect();
+    stages.sort_by_key(|s| s.head);
+    stages
+}
+
+fn grand_blocks(sheet: &Sheet) -> Vec<Block> {
+    let (map, roads) = (Map::of(sheet), Roads::of(sheet));
+    let squares: Vec<Vec<usize>> = (0..TREE)
+        .map(|i| {
+            let square = block([0, i << (2 * LEVEL), LEVEL, 0, 0, 0]);
+            (0..map.places()).filter(|&v| map.covers(&square, v)).collect()
+        })
+        .collect();
+    let mut blocks = Vec::new();
+    for u in 0..PLACES {
+        let next = (u + 1) % PLACES;
+        let colour = map.leaving(u as usize).iter().position(|s| s.head == next).expect("a stage to the next");
+        for (i, square) in squares.iter().enumerate() {
+            let others: Vec<usize> = square.iter().copied().filter(|&v| v != u as usize).collect();
+            let (low, high) = tightest(&map, &roads, u as usize, &others);
+            blocks.push(block([u, (i as u32) << (2 * LEVEL), LEVEL, colour as u32, low, high]));
+        }
+    }
+    blocks
+}
+
+/// One record more than a section may have, its bytes all there.
+fn one_over(tally: &mut Tally, sheet: Sheet) {
+    let mut changed = [sheet.clone(), sheet.clone(), sheet.clone(), sheet];
+    changed[0].places.push(Place::at(1, 1));
+    changed[1].stages.push(stage([1_023, 1_022, 1]));
+    changed[2].blocks.push(block([1_023, 1_048_575, 0, 0, 0, 0]));
+    changed[3].offices.push(0);
+    for over in changed {
+        let found = layout::read(&over.to_bytes()).err();
+        tally.met_check(found.unwrap_or(ACCEPTED));
+        tally.same("one record over", found, Some(BAD_COUNT));
+    }
+}
+
+fn full_sheet(tally: &mut Tally) {
+    let sheet = limit_cases::filled(&mut Rng::new(1, 1));
+    let bytes = sheet.to_bytes();
+    tally.same("a full sheet's bytes", bytes.len(), 65_536);
+    let text = answer(&input_of(0, 1, &bytes));
+    tally.claim(text.starts_with("1 "), || format!("a full sheet: {text}"));
+}

@@ -1,0 +1,79 @@
+//! The walk told another way: each named road is written out with the interval after every stage,
+//! and the listing only moves along those. Checked sheets or not.
+
+use crate::rules::limits::ANSWER_WORDS;
+use crate::rules::refusal::*;
+use crate::rules::sheet::Sheet;
+use crate::selftest::plain::{block_for, crow, ends, stage_of_colour};
+use std::collections::BTreeSet;
+
+/// The ends kept after so many stages, or the refusal that is met there.
+type Ends = Result<(i128, i128), Number>;
+
+pub struct Road {
+    pub ends: Vec<Ends>,
+    pub arrives: bool,
+}
+
+impl Road {
+    pub fn stages(&self) -> u64 {
+        self.ends.len() as u64 - 1
+    }
+
+    /// After the last written state only "too many refinements" is left.
+    fn after(&self, stages: usize) -> Ends {
+        self.ends.get(stages).copied().unwrap_or(Err(WALK_TOO_LONG))
+    }
+}
+
+/// The named road from q to a place, as far as it can be followed in N-1 stages.
+pub fn road(sheet: &Sheet, q: usize, sought: usize) -> Road {
+    let (mut via, mut walked) = (q, 0);
+    let mut road = Road { ends: Vec::new(), arrives: false };
+    let mut kept = (0, i128::MAX);
+    while road.ends.len() < sheet.places.len() {
+        let here = match (via == sought, block_for(sheet, via, sought)) {
+            (true, _) => (0, 0),
+            (false, Some(block)) => ends(block, crow(&sheet.places[via], &sheet.places[sought])),
+            (false, None) => {
+                road.ends.push(Err(WALK_NO_BLOCK));
+                return road;
+            }
+        };
+        kept = (kept.0.max(here.0 + walked), kept.1.min(here.1 + walked));
+        road.ends.push(if kept.0 > kept.1 { Err(WALK_EMPTY) } else { Ok(kept) });
+        road.arrives = via == sought;
+        if road.arrives || kept.0 > kept.1 {
+            return road;
+        }
+        let block = block_for(sheet, via, sought).expect("it gave this interval");
+        let stage = stage_of_colour(sheet, block.place, block.colour);
+        walked += i128::from(stage.length);
+        via = stage.head as usize;
+    }
+    road
+}
+
+/// What a valid question lists, with its total, or its refusal; the layout holds.
+pub fn listing(sheet: &Sheet, q: usize, k: usize) -> Result<(Vec<u64>, u64), Number> {
+    let roads: Vec<Road> = (0..sheet.places.len()).map(|v| road(sheet, q, v)).collect();
+    let road_of = |office: usize| &roads[sheet.offices[office] as usize];
+    let mut waiting = BTreeSet::new();
+    let mut stages = vec![0; sheet.offices.len()];
+    for office in 0..sheet.offices.len() {
+        waiting.insert((road_of(office).after(0)?.0, office));
+    }
+    let (mut list, mut total) = (Vec::new(), 0);
+    while list.len() < k * ANSWER_WORDS {
+        let (_, leader) = waiting.pop_first().expect("k offices");
+        let (low, high) = road_of(leader).after(stages[leader])?;
+        if waiting.first().is_none_or(|&next| (high, leader) < next) {
+            list.extend([leader as u64, low as u64, high as u64, stages[leader] as u64]);
+        } else {
+            stages[leader] += 1;
+            total += 1;
+            waiting.insert((road_of(leader).after(stages[leader])?.0, leader));
+        }
+    }
+    Ok((list, total))
+}

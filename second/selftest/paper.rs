@@ -1,0 +1,106 @@
+//! Self test, part 1: what the paper prints, P1 to P10 and its list "Run, not proved".
+
+use crate::inputs::marked;
+use crate::rules::map::Map;
+use crate::rules::measure::{code_of, crow, Interval};
+use crate::rules::program::{answer, input_of};
+use crate::rules::question::{refine, start};
+use crate::rules::roads::Roads;
+use crate::rules::sheet::Sheet;
+use crate::selftest::probe::{check_gives, question_asked};
+use crate::tally::Tally;
+
+pub fn run(tally: &mut Tally) {
+    tally.same("the marked sheet's bytes", marked::sheet().to_bytes().len(), 300);
+    printed(tally);
+    marked_measures(tally);
+    marked_intervals(tally);
+    marked_questions(tally);
+    layout_passes(tally);
+    untrue_sheets(tally);
+    one_office(tally);
+}
+
+fn program_prints(tally: &mut Tally, name: &str, sheet: &Sheet, (q, k): (u32, u32), due: &str) {
+    let text = answer(&input_of(q, k, &sheet.to_bytes()));
+    tally.met_text(&text);
+    tally.same(name, text.as_str(), due);
+}
+
+fn printed(tally: &mut Tally) {
+    let sheet = marked::sheet();
+    program_prints(tally, "k = 1", &sheet, (2, 1), "1 1\n2 5 5 1\n");
+    program_prints(tally, "the printed case", &sheet, (2, 2), "2 5\n2 5 5 1\n0 11 11 2\n");
+    program_prints(tally, "k = 3", &sheet, (2, 3), "3 5\n2 5 5 1\n0 11 11 2\n1 20 20 2\n");
+    program_prints(tally, "k = 0", &sheet, (2, 0), "refused 8\n");
+    program_prints(tally, "k = 4", &sheet, (2, 4), "refused 8\n");
+    program_prints(tally, "q = 4", &sheet, (4, 2), "refused 7\n");
+    program_prints(tally, "q = 4, k = 4", &sheet, (4, 4), "refused 7\n");
+}
+
+fn marked_measures(tally: &mut Tally) {
+    let sheet = marked::sheet();
+    let place = |u: usize| sheet.places[u];
+    tally.same("P1", [1, 2, 3].map(|u| code_of(place(u))), [37, 148, 34]);
+    tally.same("P2", crow(place(0), place(1)).0, 80);
+    tally.same("P3", crow(place(1), place(3)).0, 50);
+    tally.same("P4", crow(place(2), place(3)).0, 107);
+    let roads = Roads::of(&sheet);
+    tally.same("P5", roads.between(2, 3), 20);
+    tally.same("P6", roads.between(0, 2), 11);
+}
+
+fn marked_intervals(tally: &mut Tally) {
+    let sheet = marked::sheet();
+    let map = Map::of(&sheet);
+    let first = start(&map, 2).expect("the marked sheet is true");
+    let ends = |i: Interval| (i.low, i.high);
+    let found: Vec<(u64, u64)> = first.iter().map(|office| ends(office.interval)).collect();
+    tally.same("P7", found, vec![(10, 30), (7, 20), (5, 15)]);
+    let refined = refine(&map, &first[1]).expect("the marked sheet is true");
+    tally.same("P8", (ends(refined.interval), refined.via), ((9, 20), 1));
+}
+
+fn marked_questions(tally: &mut Tally) {
+    let bytes = marked::sheet().to_bytes();
+    check_gives(tally, "the check", &marked::sheet(), 0);
+    let (one, list) = question_asked(tally, "P9", &bytes, 2, 1);
+    tally.same("P9", (list[0], one.refinements), (2, 1));
+    let (two, list) = question_asked(tally, "P10", &bytes, 2, 2);
+    tally.same("P10", (list, two.refinements), (vec![2, 5, 5, 1, 0, 11, 11, 2], 5));
+}
+
+/// These are said of the layout alone: a question that is refused for its k has passed the layout.
+fn layout_passes(tally: &mut Tally) {
+    let mut passes = |name: &str, due: u32, change: &dyn Fn(&mut Sheet)| {
+        let mut sheet = marked::sheet();
+        change(&mut sheet);
+        let (outcome, _) = question_asked(tally, name, &sheet.to_bytes(), 2, 0);
+        tally.same(name, outcome.number, due);
+    };
+    passes("x 1,023", 8, &|s| s.places[2].x = 1_023);
+    passes("x 1,024", 3, &|s| s.places[2].x = 1_024);
+    passes("length 65,535", 8, &|s| s.stages[3].length = 65_535);
+    passes("length 65,536", 4, &|s| s.stages[3].length = 65_536);
+    passes("level 10", 8, &|s| s.blocks[6].level = 10);
+    passes("level 11", 5, &|s| s.blocks[6].level = 11);
+}
+
+fn untrue_sheets(tally: &mut Tally) {
+    let mut raised = marked::sheet();
+    raised.blocks[5].low = 65;
+    check_gives(tally, "low 65", &raised, 14);
+    program_prints(tally, "low 65", &raised, (2, 2), "refused 14\n");
+    let mut removed = marked::sheet();
+    removed.blocks.retain(|b| b.place != 3);
+    check_gives(tally, "no block of 3", &removed, 12);
+    program_prints(tally, "no block of 3", &removed, (2, 2), "refused 12\n");
+}
+
+fn one_office(tally: &mut Tally) {
+    let mut sheet = marked::sheet();
+    sheet.offices = vec![3];
+    program_prints(tally, "one office", &sheet, (2, 1), "1 0\n0 7 20 0\n");
+    sheet.offices = vec![2];
+    program_prints(tally, "one office, at q", &sheet, (2, 1), "1 0\n0 0 0 0\n");
+}

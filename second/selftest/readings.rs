@@ -1,0 +1,174 @@
+//! Self test, part 5: a case for each settled point of docs/DECISIONS.md (1 to 19) that can be put as one. 6, 7, 9
+//! and 18 are among the edges; 12 is looked at in every refinement of a true sheet (demands); 19 is put with 5.
+
+use crate::inputs::marked::{self, block, stage};
+use crate::rules::limits::ANSWER_WORDS;
+use crate::rules::map::Map;
+use crate::rules::measure::{crow, interval_by};
+use crate::rules::program::{answer, input_of};
+use crate::rules::refusal::Number;
+use crate::rules::sheet::{Place, Sheet};
+use crate::selftest::oracle;
+use crate::selftest::probe::{check_gives, question_asked, question_gives};
+use crate::tally::Tally;
+
+pub fn run(tally: &mut Tally) {
+    idle_blocks_come_last(tally);
+    first_intervals_by_office(tally);
+    program_prints_bytes(tally);
+    program_checks_before_asking(tally);
+    program_limits_twice(tally);
+    crushed_interval(tally);
+    no_offices_or_one_place(tally);
+    place_without_blocks(tally);
+    old_via_is_never_first(tally);
+    largest_numbers(tally);
+}
+
+fn program(tally: &mut Tally, name: &str, input: &[u8], due: Number) {
+    let text = answer(input);
+    tally.met_text(&text);
+    tally.same(name, text, format!("refused {due}\n"));
+}
+
+fn idle_blocks_come_last(tally: &mut Tally) {
+    let mut sheet = marked::sheet();
+    sheet.blocks.insert(0, block([0, 0, 0, 0, 0, 0]));
+    check_gives(tally, "reading 1, 15 alone", &sheet, 15);
+    sheet.blocks[7].low = 116;
+    check_gives(tally, "reading 1, 14 of the last", &sheet, 14);
+}
+
+/// Place 0 sees place 1 by an interval of 1 to 0 and place 2 not at all.
+fn blind_sheet(offices: &[u32]) -> Sheet {
+    Sheet {
+        places: vec![Place::at(0, 0), Place::at(1, 0), Place::at(9, 9)],
+        stages: vec![stage([0, 1, 1]), stage([1, 2, 1]), stage([2, 0, 1])],
+        blocks: vec![block([0, 0, 1, 0, 1, 1])],
+        offices: offices.to_vec(),
+    }
+}
+
+fn first_intervals_by_office(tally: &mut Tally) {
+    question_gives(tally, "reading 2, 18 then 17", &blind_sheet(&[1, 2]), (0, 1), 18);
+    question_gives(tally, "reading 2, 17 then 18", &blind_sheet(&[2, 1]), (0, 1), 17);
+    question_gives(tally, "reading 2, a far 17", &blind_sheet(&[0, 2]), (0, 1), 17);
+    question_gives(tally, "reading 2, a far 18", &blind_sheet(&[0, 0, 1]), (0, 1), 18);
+    question_gives(tally, "reading 2, near alone", &blind_sheet(&[0, 0]), (0, 1), 0);
+}
+
+fn program_prints_bytes(tally: &mut Tally) {
+    let text = answer(&input_of(2, 2, &marked::sheet().to_bytes()));
+    tally.same("reading 3", text.as_bytes(), &b"2 5\n2 5 5 1\n0 11 11 2\n"[..]);
+}
+
+fn program_checks_before_asking(tally: &mut Tally) {
+    let mut sheet = marked::sheet();
+    sheet.blocks[5].low = 65;
+    for (q, k) in [(4, 2), (2, 0), (u32::MAX, u32::MAX)] {
+        program(tally, "reading 4", &input_of(q, k, &sheet.to_bytes()), 14);
+        let (q, k) = (u64::from(q), u64::from(k));
+        question_gives(tally, "reading 4, no check in a question", &sheet, (q, k), if q >= 4 { 7 } else { 8 });
+    }
+}
+
+fn program_limits_twice(tally: &mut Tally) {
+    for length in 0..8 {
+        program(tally, "reading 5, under 8 bytes", &vec![0; length], 20);
+    }
+    for length in 8..12 {
+        program(tally, "reading 5, no whole word", &vec![0; length], 1);
+    }
+    program(tally, "reading 5, 65,536 bytes", &vec![0; 8 + 65_536], 2);
+    program(tally, "reading 5, 65,537 bytes", &vec![0; 8 + 65_537], 20);
+    program(tally, "reading 5, 65,535 bytes", &vec![0; 8 + 65_535], 1);
+    program(tally, "reading 5, 65,540 bytes", &vec![0; 8 + 65_540], 20);
+    let many = |places: u32, offices: usize, office: u32| Sheet {
+        places: (0..places).map(|x| Place::at(x, 0)).collect(),
+        offices: vec![office; offices],
+        ..Sheet::default()
+    };
+    let mut limits = |sheet: Sheet, due: Number| program(tally, "reading 5", &input_of(0, 1, &sheet.to_bytes()), due);
+    limits(many(128, 1, 0), 11);
+    limits(many(129, 1, 0), 20);
+    limits(many(129, 1, 129), 6);
+    limits(many(1_024, 1, 0), 20);
+    limits(many(1_025, 1, 0), 2);
+    limits(many(2, 1_024, 0), 11);
+    limits(many(2, 1_025, 0), 20);
+    limits(many(2, 1_025, 2), 6);
+    limits(many(2, 4_096, 0), 20);
+    limits(many(2, 4_097, 0), 2);
+}
+
+fn crushed_interval(tally: &mut Tally) {
+    let mut sheet = blind_sheet(&[1]);
+    sheet.blocks[0].level = 10;
+    sheet.blocks.extend([1, 2].map(|u| block([u, 0, 10, 0, 0, u32::MAX])));
+    question_gives(tally, "reading 8, the question", &sheet, (0, 1), 18);
+    check_gives(tally, "reading 8, the check", &sheet, 14);
+}
+
+fn no_offices_or_one_place(tally: &mut Tally) {
+    let mut sheet = marked::sheet();
+    sheet.offices.clear();
+    for k in [0, 1, 4, u64::from(u32::MAX)] {
+        question_gives(tally, "reading 10, M = 0", &sheet, (2, k), 8);
+        question_gives(tally, "reading 10, q first", &sheet, (4, k), 7);
+    }
+    let lonely = Sheet { places: vec![Place::at(1_023, 1_023)], offices: vec![0, 0, 0], ..Sheet::default() };
+    check_gives(tally, "reading 10, N = 1", &lonely, 0);
+    let text = answer(&input_of(0, 3, &lonely.to_bytes()));
+    tally.same("reading 10, N = 1", text.as_str(), "3 0\n0 0 0 0\n1 0 0 0\n2 0 0 0\n");
+}
+
+fn place_without_blocks(tally: &mut Tally) {
+    let mut sheet = marked::sheet();
+    sheet.blocks.retain(|b| b.place != 2);
+    check_gives(tally, "reading 11", &sheet, 12);
+    sheet.blocks[4].colour = 0;
+    check_gives(tally, "reading 11, 13 before", &sheet, 13);
+    sheet.stages.pop();
+    sheet.blocks.retain(|b| b.place != 3);
+    check_gives(tally, "reading 11, 11 before", &sheet, 11);
+}
+
+/// Readings 13 and 14: the oracle has neither a test at the old via nor one for the onward interval
+/// alone; here both new vias fail, one by 17, one by 18.
+fn old_via_is_never_first(tally: &mut Tally) {
+    let mut sheet = blind_sheet(&[2, 2]);
+    sheet.blocks = vec![block([0, 0, 10, 0, 0, 5_000])];
+    question_gives(tally, "reading 13", &sheet, (0, 1), 17);
+    tally.same("reading 13, the oracle", oracle::listing(&sheet, 0, 1).err(), Some(17));
+    // From (1,0) to (9,9) the crow distance is 192: 1 x 192 / 1,024 is 1 to 0.
+    sheet.blocks.push(block([1, 0, 10, 0, 1, 1]));
+    question_gives(tally, "reading 14", &sheet, (0, 1), 18);
+    tally.same("reading 14, the oracle", oracle::listing(&sheet, 0, 1).err(), Some(18));
+}
+
+fn largest_numbers(tally: &mut Tally) {
+    let (near, far) = (Place::at(0, 0), Place::at(1_023, 1_023));
+    tally.same("the longest crow distance", crow(near, far).0, 23_147);
+    tally.same("the shortest crow distance", crow(near, Place::at(1, 0)).0, 16);
+    let open = block([0, 0, 10, 0, u32::MAX, u32::MAX]);
+    tally.same("reading 15", interval_by(&open, crow(near, far)).high, 97_085_554_665);
+    ring_of_long_stages(tally);
+}
+
+/// Reading 16: a loop post of 1,024 places whose neighbours lie a whole loop apart.
+fn ring_of_long_stages(tally: &mut Tally) {
+    let mut sheet = Sheet {
+        places: (0..1_024).map(|x| Place::at(x, 0)).collect(),
+        stages: (0..1_024).map(|u| stage([u, (u + 1) % 1_024, 65_535])).collect(),
+        blocks: (0..1_024).map(|u| block([u, 0, 10, 0, 0, 4_290_707_520])).collect(),
+        offices: vec![1_023, 0, 1],
+    };
+    check_gives(tally, "reading 16, the longest road", &sheet, 0);
+    let (outcome, list) = question_asked(tally, "reading 16", &sheet.to_bytes(), 1, 3);
+    let offices: Vec<u64> = list.chunks(ANSWER_WORDS).map(|record| record[0]).collect();
+    tally.same("reading 16, the list", (outcome.number, offices), (0, vec![2, 0, 1]));
+    let reach = Map::of(&sheet).interval(1, 0).expect("covered").high;
+    tally.same("reading 16, the tightest end", reach, 67_042_305);
+    sheet.blocks[1].high -= 1;
+    check_gives(tally, "reading 16, one tighter", &sheet, 14);
+}
