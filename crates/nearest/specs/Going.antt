@@ -70,7 +70,7 @@ pub record Waiting (places n : ℕ) (w : List ℕ) : Type 0 where
   pub here : number < n
   pub waits : at slots number .waits ≡ true
 
--- the same on some map
+-- the same, for some number of places
 pub record SomeWaits (n : ℕ) (w : List ℕ) : Type 0 where
   pub places : ℕ
   pub waiting : Waiting places n w

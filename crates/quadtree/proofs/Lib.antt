@@ -1,4 +1,5 @@
--- `Words` says where the words of a sheet stand, `Search` how the block of a code is found, `Steps` what intervals and trails come to, `Sizes` how large their numbers grow.
+-- `Words` says where the words of a ground stand, `Search` how the block of a code is found, `Steps` what intervals and trails come to, `Sizes` how large
+-- their numbers grow, `Charts` which stage a block names by the book.
 pub mod Words
 pub mod Search
 pub mod Steps

@@ -1,4 +1,4 @@
--- `Room` has what a caller of `word` needs; the others are the mathematics behind the tests.
+-- `Room` has what a caller of `word` needs, `Grounds` what a sheet with nothing due gives to the core; the others are the mathematics behind the tests.
 pub mod Room
 pub mod Counted
 pub mod Pairs

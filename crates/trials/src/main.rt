@@ -44,7 +44,7 @@ const LEVEL_OF_BLOCK_5: usize = BLOCKS_AT + 3 + BLOCK_WORDS * 5;
 
 const LOW_OF_BLOCK_5: usize = BLOCKS_AT + 5 + BLOCK_WORDS * 5;
 
-// Bytes of the sheet as far as its first office, of the sheet without its last block, and of what stands before that block.
+// Bytes of the sheet as far as its first office, of its last block, of the sheet without that block, and of what stands before it.
 const FRONT_BYTES: usize = WORD_BYTES * (OFFICES_AT + 1 + OFFICE_WORDS);
 
 const LAST_BLOCK_BYTES: usize = WORD_BYTES * BLOCK_WORDS;
