@@ -16,22 +16,15 @@ use Rattle.paper.proofs.Cleared.{cleared-same}
 use Rattle.nearest.specs.Working.{Beyond}
 use Rattle.nearest.proofs.Replies.{early, reply-invalid, walk-reply}
 
--- over a map with nothing due in its layout, of so many places, and a list of n offices
-module _ (m : Map) (o : Offices) (places n : ℕ) (p : places ≡ m .places) (same : n ≡ o .count) (q k : ℕ) (a w : List ℕ) where
-  -- what the code's test of 7, 8 and 9 comes to
-  abbrev Tested : ℕ → Type 0
-  Tested y = (m : Map) (o : Offices) → m .places ≡ places → o .count ≡ n → y ≡ invalid m o q k a w
-
-  tested : (y : ℕ) → Tested y → y ≡ invalid m o q k a w
-  tested y t = t m o (sym p) (sym same)
-
-  pub ask-invalid : (y : ℕ) → Tested y → (y ≡ 0 → ⊥) → early y a w ≡ replyOn 0 m o q k a w
+-- over a map with nothing due in its layout and a list of n offices; y is what the code's test of 7, 8 and 9 gives
+module _ (m : Map) (o : Offices) (n : ℕ) (same : n ≡ o .count) (q k : ℕ) (a w : List ℕ) where
+  pub ask-invalid : (y : ℕ) → y ≡ invalid m o q k a w → (y ≡ 0 → ⊥) → early y a w ≡ replyOn 0 m o q k a w
   ask-invalid zero t ne = absurd (ne refl)
-  ask-invalid (suc y) t ne = sym (reply-invalid 0 m o q k a w refl y (sym (tested (suc y) t)))
+  ask-invalid (suc y) t ne = sym (reply-invalid 0 m o q k a w refl y (sym t))
 
-  module _ (y : ℕ) (t : Tested y) (z : y ≡ 0) where
+  module _ (y : ℕ) (t : y ≡ invalid m o q k a w) (z : y ≡ 0) where
     ask-valid : ValidOn m o q k a w
-    ask-valid = sym (tested y t) ∙ z
+    ask-valid = sym t ∙ z
 
     pub ask-allowed : Allowed m o q k a w
     ask-allowed = valid m o q k a w ask-valid

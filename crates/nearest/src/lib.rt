@@ -1,7 +1,7 @@
 // The question: the k offices nearest by road to a place.
 mod slices;
 mod tree;
-mod walk;
+pub mod walk;
 
 use crate::slices::clear;
 use crate::walk::Walked;
@@ -16,7 +16,8 @@ use sheet::layout;
 use sheet::list_at;
 use sheet::road_book;
 ghost use mathlib.Core.Path.{_≡_};
-ghost use Prim.Native.Nat.{_*_, _≤_, _<_};
+ghost use mathlib.Core.List.{List};
+ghost use Prim.Native.Nat.{ℕ, _*_, _≤_, _<_};
 ghost use lib.ListN.{length};
 ghost use Rattle.paper.specs.Sizes.{lineWords, slotWords, mostOffices};
 ghost use Rattle.paper.specs.Map.{Map, Offices};
@@ -48,9 +49,9 @@ fn refused(number: u32) -> Reply
 }
 
 // 0, or the first of 7, 8 and 9 that is due, for slices of so many words.
-fn invalid(counts: Counts, q: u32, k: u32, answer: &[u64], working: &[u64]) -> u32
+pub fn invalid(counts: Counts, q: u32, k: u32, answer: usize, working: usize) -> u32
     requires { ⌜ counts .offices ≤ mostOffices ⌝ }
-    ensures { λ r. ⌜ ((m : Map) (o : Offices) → m .places ≡ counts .places → o .count ≡ counts .offices → r ≡ invalidOf m o q k (now (answer .entry)) (now (working .entry))) ⌝ }
+    ensures { λ r. ⌜ ((m : Map) (o : Offices) (a w : List ℕ) → m .places ≡ counts .places → o .count ≡ counts .offices → length a ≡ answer → length w ≡ working → r ≡ invalidOf m o q k a w) ⌝ }
 {
     if counts.places <= q as usize {
         return 7;
@@ -61,17 +62,17 @@ fn invalid(counts: Counts, q: u32, k: u32, answer: &[u64], working: &[u64]) -> u
     if counts.offices < k as usize {
         return 8;
     }
-    if answer.len() < LINE_WORDS * k as usize {
+    if answer < LINE_WORDS * k as usize {
         return 9;
     }
-    if working.len() < SLOT_WORDS * counts.offices {
+    if working < SLOT_WORDS * counts.offices {
         return 9;
     }
     0
 }
 
 // The walk over a map that is read off the bytes: its road book, and then the listing.
-fn walk_mapped(
+pub fn walk_mapped(
     ground: &[u8],
     counts: Counts,
     list: &[u8],
@@ -125,7 +126,7 @@ fn ask(
     requires { ⌜ Roll (now list) (counts .offices) (counts .places) ⌝ }
     ensures { λ r. ⌜ replied r (now (answer .exit)) (now (working .exit)) ≡ replyOn 0 (mapOf (now (ground .entry))) (officesIn (now (list .entry))) q k (now (answer .entry)) (now (working .entry)) ⌝ }
 {
-    let number = invalid(counts, q, k, answer, working);
+    let number = invalid(counts, q, k, answer.len(), working.len());
     if number != 0 {
         return refused(number);
     }

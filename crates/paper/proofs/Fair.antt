@@ -14,7 +14,8 @@ use Rattle.paper.specs.Map.{Map}
 use Rattle.paper.specs.Quest.{Quest}
 use Rattle.paper.specs.Trail.{Trail, start, refine}
 use Rattle.paper.specs.Listing.{Slot, State, noSlot, at, lineOf, leader, retired, refined, clear, listed, walkedOn, move, step, run, starts, begin, enough, listing}
-use Rattle.paper.proofs.Holds.{On, on-if, on-true, on-then, on-map, joined}
+use Rattle.paper.specs.Served.{served}
+use Rattle.paper.proofs.Holds.{On, given, on-if, on-true, on-then, on-map, joined}
 use Rattle.paper.proofs.Count.{below-all, sum-same, sum-but, sum-most, sum-ones}
 use Rattle.paper.proofs.Walk.{Walk, Finer, walk-start, walk-refine}
 use Rattle.paper.proofs.Leader.{Leads, Least, leader-law}
@@ -197,3 +198,7 @@ module _ (m : Map) (x : Quest) where
       (λ i p. on-map Walk (λ t. t .stages ≡ 0) (λ t. Unit {0}) (start m (x .from i) (x .to i)) (walk-start m (x .from i) (x .to i)) (λ t e. tt))
       (λ ss B. tt)
       (λ st F p lt. on-map Walk (λ st′. Fair (m .places) (x .count) st′ × Next st st′) (λ st′. Unit {0}) (step m x st) (fair-step st F (omega arith)) (λ st′ h. tt))
+
+  -- a listing that is served has k lines
+  pub listing-count : (k : ℕ) → k ≤ x .count → (st : State) → listing m x k ≡ served st → length (st .lines) ≡ k
+  listing-count k most st e = given Walk (Ended (m .places) (x .count) k (λ st. Unit {0})) (listing m x k) st e (listing-ends k most) .count

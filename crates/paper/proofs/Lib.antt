@@ -30,3 +30,5 @@ pub mod Reply
 pub mod Worked
 pub mod Decimal
 pub mod Printed
+pub mod Words
+pub mod Host

@@ -24,3 +24,5 @@ pub mod Answer
 pub mod Reply
 pub mod Marked
 pub mod Printed
+pub mod Words
+pub mod Host

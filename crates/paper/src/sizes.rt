@@ -1,7 +1,11 @@
 // The paper's numbers, each in one place. Those of the definitions are in specs/Sizes; the proofs of the code hold the two together.
 
-// Bytes of a word.
+// Bytes of a word, of a word of 64 bits, and of a question's two counts.
 pub const WORD_BYTES: usize = 4;
+
+pub const LONG_BYTES: usize = 8;
+
+pub const COUNTS_BYTES: usize = 2 * LONG_BYTES;
 
 // Words of a place, a stage, a block and an office record.
 pub const PLACE_WORDS: usize = 2;

@@ -5,17 +5,19 @@ use native.Mathlib.Decide.{ℕ-discrete, decLt}
 use mathlib.Core.Path.{_≡_, refl, _∙_}
 use mathlib.Core.Bool.{true}
 use mathlib.Core.List.{List}
-use lib.ListN.{length, getD, set}
+use lib.ListN.{length, getD, set, replicate, length-replicate}
 use lib.Seq.{getD-set-same, getD-set-other}
+use Rattle.paper.specs.declared.Counts.{Counts}
 use Rattle.paper.specs.Map.{Map}
 use Rattle.paper.specs.Stage.{stagesBelow, stageOf}
 use Rattle.paper.specs.Sheet.{word, stagesAt, mapOf}
-use Rattle.paper.specs.Sizes.{stageWords}
+use Rattle.paper.specs.Sizes.{stageWords, mostPlaces, mostStages}
 use Rattle.paper.specs.Slice.{Untouched}
 use Rattle.paper.specs.Layout.{stagesHold}
 use Rattle.paper.proofs.Laid.{stages-ok}
 use Rattle.paper.proofs.Stages.{Parts, begins}
-use Rattle.sheet.specs.Book.{Leads, Book, Filled, Begins, Next, Ascending}
+use Rattle.sheet.specs.Book.{Leads, Book, Filled, Begins, Next, Ascending, Roomy}
+use Rattle.sheet.specs.Laid.{Within}
 
 pub filled-start : (f : ℕ → ℕ) (l : List ℕ) → Filled 0 f l l
 filled-start f l = record { words = λ i p. absurd (omega arith); beyond = λ k p. refl }
@@ -116,3 +118,11 @@ module _ (s : List ℕ) (hold : stagesHold (mapOf s) ≡ true) (n a : ℕ) (stag
 pub stage-at : (m : Map) (first heads lengths : List ℕ) → Leads m first heads lengths → (u c : ℕ) → u < m .places → stageOf m u c ≡ getD first u 0 + c
 unfolding stageOf
 stage-at m first heads lengths L u c p = rw (L .begins .each u p)
+
+-- arrays of zeros, one for the places and one for the stages, have room for the book of any sheet
+pub zeros-roomy : (c : Counts) → Within c → let places : List ℕ = replicate mostPlaces 0 in let stages : List ℕ = replicate mostStages 0 in
+    (Roomy c places stages stages stages) × (c .places ≤ length places) × (c .stages ≤ length stages)
+zeros-roomy c W =
+    let p : c .places ≤ length {A = ℕ} (replicate mostPlaces 0) = omega (arith, W .places, length-replicate {A = ℕ} mostPlaces 0) in
+    let q : c .stages ≤ length {A = ℕ} (replicate mostStages 0) = omega (arith, W .stages, length-replicate {A = ℕ} mostStages 0) in
+    (record { places = p; tail = q; head = q; furlongs = q }, p, q)

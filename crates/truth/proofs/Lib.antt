@@ -7,4 +7,5 @@ pub mod Finding
 pub mod Pairing
 pub mod Progress
 pub mod Surveyed
+pub mod Filling
 pub mod Determined

@@ -2,3 +2,4 @@ pub mod Table
 pub mod Faults
 pub mod Pairs
 pub mod Roads
+pub mod Columns

@@ -1,5 +1,5 @@
 -- `nearest::ask` meets its contract.
-use mathlib.Core.Path.{_≡_, ap, subst, _∙_}
+use mathlib.Core.Path.{_≡_, refl, sym, ap, subst, _∙_}
 use Prim.Native.Nat.{_*_, _≤_}
 use native.Mathlib.Omega.{arith}
 use lib.ListN.{length}
@@ -8,6 +8,7 @@ use Rattle.paper.specs.Sizes.{slotWords}
 use Rattle.paper.specs.Sheet.{mapOf, officesIn}
 use Rattle.paper.specs.Quest.{outward}
 use Rattle.paper.specs.Listing.{listing}
+use Rattle.paper.specs.Reply.{invalid}
 use Rattle.paper.proofs.Reply.{Allowed}
 use Rattle.sheet.proofs.Grounds.{roll-count}
 use Rattle.nearest.specs.declared.Reply as code
@@ -20,7 +21,7 @@ use Rattle.nearest.proofs.ask.Tie as tie
 
 -- the places, each by the one before it
 abbrev begin : tie.After-invalid → tie.Start
-begin c = c .before .before .before .before .before .before .before
+begin c = c .before .before .before .before .before
 
 abbrev valid : tie.After-walk-mapped → tie.Else1
 valid c = c .before .before .before
@@ -38,12 +39,17 @@ places s = s .pre .0 .parts .places
 offices : (s : tie.Start) → s .args .counts .offices ≡ officesIn (s .args .list .now) .count
 offices s = roll-count (s .pre .1)
 
+-- what the test of 7, 8 and 9 comes to
+tested : (c : tie.After-invalid) → let s = begin c in
+    c .invalid .result ≡ invalid (mapOf (s .args .ground .now)) (officesIn (s .args .list .now)) (s .args .q) (s .args .k) (s .args .answer .now) (s .args .working .now)
+tested c = let s = begin c in c .invalid .ensures _ _ _ _ (sym (places s)) (sym (offices s)) refl refl
+
 -- a question that is valid: what the walk needs
 allowed : (c : tie.Else1) → let s = begin (c .before) in Allowed (mapOf (s .args .ground .now)) (officesIn (s .args .list .now)) (s .args .q) (s .args .k) (s .args .answer .now) (s .args .working .now)
-allowed c = let s = begin (c .before) in ask-allowed _ _ _ _ (places s) (offices s) _ _ _ _ _ (c .before .invalid .ensures) (c .if1 .left)
+allowed c = let s = begin (c .before) in ask-allowed _ _ _ (offices s) _ _ _ _ _ (tested (c .before)) (c .if1 .left)
 
 works : (c : tie.Else1) → let s = begin (c .before) in slotWords * s .args .counts .offices ≤ length (s .args .working .now)
-works c = let s = begin (c .before) in ask-works (mapOf (s .args .ground .now)) (officesIn (s .args .list .now)) _ _ (places s) (offices s) _ _ _ _ _ (c .before .invalid .ensures) (c .if1 .left)
+works c = let s = begin (c .before) in ask-works (mapOf (s .args .ground .now)) (officesIn (s .args .list .now)) _ (offices s) _ _ _ _ _ (tested (c .before)) (c .if1 .left)
 
 -- how the walk ended
 ended : (c : tie.After-walk-mapped) → let s = begin (valid c .before) in (r : Walked) → c .walk-mapped .result ≡ r
@@ -53,7 +59,7 @@ ended c r e =
     subst (Came (s .args .k) (listing (mapOf (s .args .ground .now)) (outward (officesIn (s .args .list .now)) (s .args .q)) (s .args .k)) (s .args .answer .now) (c .walk-mapped .last .1 .1 .1 .1 .1 .0)) e (c .walk-mapped .ensures .1)
 
 invalid-requires : tie.Need-invalid-requires
-invalid-requires c κs = c .before .before .before .before .before .before .pre .1 .few
+invalid-requires c κs = c .before .before .before .before .pre .1 .few
 
 refused-requires : tie.Need-refused-requires
 refused-requires c κs = search needs
@@ -69,7 +75,7 @@ returns c =
     let v = c .before .before in
     let s = begin v in
     ap (λ (r : code.Reply). replied r (s .args .answer .now) (s .args .working .now)) (c .refused .ensures)
-    ∙ ask-invalid _ _ _ _ (places s) (offices s) _ _ _ _ _ (v .invalid .ensures) (c .before .if1 .taken)
+    ∙ ask-invalid _ _ _ (offices s) _ _ _ _ _ (tested v) (c .before .if1 .taken)
 
 walk-mapped-requires : tie.Need-walk-mapped-requires
 walk-mapped-requires c κs =
@@ -102,12 +108,6 @@ clear-requires-2 c κs =
 refused-requires-2 : tie.Need-refused-requires-2
 refused-requires-2 c κs = search needs
 
-same-length-3 : tie.Need-same-length-3
-same-length-3 c = search needs
-
-same-length-4 : tie.Need-same-length-4
-same-length-4 c = search needs
-
 returns-2 : tie.Need-returns-2
 returns-2 c =
     let k = c .before .before .before .before .before in
@@ -115,13 +115,13 @@ returns-2 c =
     let v = valid w in
     let s = begin (v .before) in
     let E = ended w _ (c .before .ended .given .1) in
-    ask-done _ _ _ _ (places s) (offices s) _ _ _ _ _ (v .before .invalid .ensures) (v .if1 .left) _ _ (w .walk-mapped .ensures .0) (k .clear .ensures) (E .0) _ _ (E .1) (E .2) (E .3)
+    ask-done _ _ _ (offices s) _ _ _ _ _ (tested (v .before)) (v .if1 .left) _ _ (w .walk-mapped .ensures .0) (k .clear .ensures) (E .0) _ _ (E .1) (E .2) (E .3)
 
-same-length-5 : tie.Need-same-length-5
-same-length-5 c = search needs
+same-length-3 : tie.Need-same-length-3
+same-length-3 c = search needs
 
-same-length-6 : tie.Need-same-length-6
-same-length-6 c = search needs
+same-length-4 : tie.Need-same-length-4
+same-length-4 c = search needs
 
 returns-3 : tie.Need-returns-3
 returns-3 c =
@@ -133,7 +133,7 @@ returns-3 c =
     let s = begin (v .before) in
     let E = ended w _ (t .before .ended2 .given .1) in
     ap (λ (r : code.Reply). replied r (a .clear2 .last .0) (k .clear .last .0)) (c .refused2 .ensures)
-    ∙ ask-refused _ _ _ _ (places s) (offices s) _ _ _ _ _ (v .before .invalid .ensures) (v .if1 .left) _ _ (w .walk-mapped .ensures .0) (k .clear .ensures) _ _ _ (E .0) (E .1) (a .clear2 .ensures)
+    ∙ ask-refused _ _ _ (offices s) _ _ _ _ _ (tested (v .before)) (v .if1 .left) _ _ (w .walk-mapped .ensures .0) (k .clear .ensures) _ _ _ (E .0) (E .1) (a .clear2 .ensures)
 
 pub ask-spec : {M : Type 1} → statement M
 ask-spec =
@@ -141,8 +141,6 @@ ask-spec =
     (tie.spec
     invalid-requires
     refused-requires
-    same-length
-    same-length-2
     returns
     walk-mapped-requires
     mul-clear
@@ -152,9 +150,9 @@ ask-spec =
     mul-clear-2
     clear-requires-2
     refused-requires-2
+    same-length
+    same-length-2
+    returns-2
     same-length-3
     same-length-4
-    returns-2
-    same-length-5
-    same-length-6
     returns-3)

@@ -4,7 +4,7 @@ use Rattle.paper.specs.Sheet.{mapOf}
 use Rattle.sheet.specs.Ground.{Charted}
 use Rattle.sheet.proofs.Room.{room}
 use Rattle.sheet.proofs.Grounds.{mapped-ground, mapped-charted}
-use Rattle.nearest.proofs.Arrays.{roomy}
+use Rattle.sheet.proofs.Booked.{zeros-roomy}
 use Rattle.nearest.proofs.walk_mapped.Statement.{statement}
 use Rattle.nearest.proofs.walk_mapped.Tie as tie
 
@@ -29,7 +29,7 @@ slice-aggregate-road-book-4 : tie.Need-slice-aggregate-road-book-4
 slice-aggregate-road-book-4 c = search needs
 
 road-book-requires : tie.Need-road-book-requires
-road-book-requires c κs = let p = c .before .before .before .before .before .before .before .before .pre in (p .0, roomy _ (room _ _ (p .0 .parts) .within))
+road-book-requires c κs = let p = c .before .before .before .before .before .before .before .before .pre in (p .0, zeros-roomy _ (room _ _ (p .0 .parts) .within) .0)
 
 slice-aggregate-walk : tie.Need-slice-aggregate-walk
 slice-aggregate-walk c = search needs

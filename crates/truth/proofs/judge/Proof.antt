@@ -1,4 +1,4 @@
--- `truth::judge` meets its contract: a slice that is too short, or the survey.
+-- `truth::judge` meets its contract: a slice that is too short, or the table filled.
 use native.Mathlib.Nat.{mul-le-mul}
 use native.Mathlib.Omega.{arith}
 use borrow.Author.Needs.{needs}
@@ -16,8 +16,8 @@ mul-if1 c = let n = room _ _ (begin c .pre .parts) .within .places in omega (ari
 returns : tie.Need-returns
 returns c = short-end _ _ _ (begin (c .before) .pre) (omega arith)
 
-survey-requires : tie.Need-survey-requires
-survey-requires c κs = search needs
+fill-requires : tie.Need-fill-requires
+fill-requires c κs = search needs
 
 same-length : tie.Need-same-length
 same-length c = search needs
@@ -26,4 +26,4 @@ returns-2 : tie.Need-returns-2
 returns-2 c = search needs
 
 pub judge-spec : {M : Type 1} → statement M
-judge-spec = tie.close (tie.spec mul-if1 returns survey-requires same-length returns-2)
+judge-spec = tie.close (tie.spec mul-if1 returns fill-requires same-length returns-2)
