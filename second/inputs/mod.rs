@@ -4,6 +4,7 @@
 pub mod damage;
 pub mod draw;
 pub mod edges;
+pub mod full;
 pub mod limit_cases;
 pub mod make;
 pub mod marked;

@@ -69,7 +69,7 @@ fn grand_blocks(sheet: &Sheet) -> Vec<Block> {
         let colour = map.leaving(u as usize).iter().position(|s| s.head == next).expect("a stage to the next");
         for (i, square) in squares.iter().enumerate() {
             let others: Vec<usize> = square.iter().copied().filter(|&v| v != u as usize).collect();
-            let (low, high) = tightest(&map, &roads, u as usize, &others);
+            let (low, high) = tightest(&map, u as usize, &others, |v| roads.between(u as usize, v));
             blocks.push(block([u, (i as u32) << (2 * LEVEL), LEVEL, colour as u32, low, high]));
         }
     }

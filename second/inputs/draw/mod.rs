@@ -1,7 +1,7 @@
 //! Random sheets that tell the truth, and questions about them.
 
-mod net;
-mod places;
+pub mod net;
+pub mod places;
 pub mod trees;
 
 use crate::inputs::rng::Rng;
@@ -83,7 +83,8 @@ fn office_count(rng: &mut Rng) -> usize {
     }
 }
 
-fn offices(rng: &mut Rng, places: usize, count: usize, spread: usize) -> Vec<u32> {
+/// So many offices, at so many different places at most.
+pub fn offices(rng: &mut Rng, places: usize, count: usize, spread: usize) -> Vec<u32> {
     let mut towns: Vec<u32> = (0..places as u32).collect();
     rng.shuffle(&mut towns);
     towns.truncate(spread.max(1));

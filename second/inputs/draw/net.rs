@@ -25,6 +25,8 @@ pub enum Lengths {
     All(u32),
     UpTo(u32),
     ByCrow,
+    /// The crow distance in sixteenths, and up to so many tenths of it more.
+    OverCrow(u32),
 }
 
 pub const LENGTH_STYLES: [Lengths; 6] = [
@@ -37,16 +39,16 @@ pub const LENGTH_STYLES: [Lengths; 6] = [
 ];
 
 /// Stages by (tail, head), which is also the order of the sheet.
-struct Drawing<'a> {
-    places: &'a [Place],
+pub struct Drawing<'a> {
+    pub places: &'a [Place],
     lengths: Lengths,
     stages: BTreeMap<(usize, usize), u32>,
-    leaving: Vec<usize>,
+    /// How many stages leave each place so far.
+    pub leaving: Vec<usize>,
 }
 
 pub fn stages(rng: &mut Rng, places: &[Place], net: Net, lengths: Lengths, extra: usize) -> Vec<Stage> {
-    let leaving = vec![0; places.len()];
-    let mut drawing = Drawing { places, lengths, stages: BTreeMap::new(), leaving };
+    let mut drawing = Drawing::new(places, lengths);
     match net {
         Net::Loop => drawing.one_loop(rng),
         Net::Loops => drawing.loops(rng),
@@ -57,17 +59,25 @@ pub fn stages(rng: &mut Rng, places: &[Place], net: Net, lengths: Lengths, extra
         let (tail, head) = (rng.below(places.len()), rng.below(places.len()));
         drawing.add(rng, tail, head);
     }
-    let stage = |(&(tail, head), &length): (&(usize, usize), &u32)| Stage {
-        tail: tail as u32,
-        head: head as u32,
-        length,
-    };
-    drawing.stages.iter().map(stage).collect()
+    drawing.stages()
 }
 
-impl Drawing<'_> {
+impl<'a> Drawing<'a> {
+    pub fn new(places: &'a [Place], lengths: Lengths) -> Drawing<'a> {
+        Drawing { places, lengths, stages: BTreeMap::new(), leaving: vec![0; places.len()] }
+    }
+
+    pub fn stages(&self) -> Vec<Stage> {
+        let stage = |(&(tail, head), &length): (&(usize, usize), &u32)| Stage {
+            tail: tail as u32,
+            head: head as u32,
+            length,
+        };
+        self.stages.iter().map(stage).collect()
+    }
+
     /// Adds the stage if the layout rules let it stand.
-    fn add(&mut self, rng: &mut Rng, tail: usize, head: usize) {
+    pub fn add(&mut self, rng: &mut Rng, tail: usize, head: usize) {
         let full = self.leaving[tail] == LEAVING_MOST;
         if tail == head || full || self.stages.contains_key(&(tail, head)) {
             return;
@@ -85,10 +95,14 @@ impl Drawing<'_> {
                 let crow = crow(self.places[tail], self.places[head]).0 as u32;
                 (crow / 16 + rng.between(0, crow / 32)).clamp(*LENGTHS.start(), *LENGTHS.end())
             }
+            Lengths::OverCrow(tenths) => {
+                let crow = crow(self.places[tail], self.places[head]).0 as u32;
+                (crow + rng.between(0, crow * tenths / 10)).min(*LENGTHS.end())
+            }
         }
     }
 
-    fn one_loop(&mut self, rng: &mut Rng) {
+    pub fn one_loop(&mut self, rng: &mut Rng) {
         let count = self.places.len();
         let mut order: Vec<usize> = (0..count).collect();
         rng.shuffle(&mut order);

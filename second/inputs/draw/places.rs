@@ -27,6 +27,17 @@ pub const SHAPES: [Shape; 7] = [
 
 const EDGE: u32 = GRID_SIDE - 1;
 
+/// So many places in rows, row by row, each anywhere in a square of its own; and how many a row has.
+pub fn in_rows(rng: &mut Rng, count: usize) -> (Vec<Place>, usize) {
+    let side = (1..).find(|side| side * side >= count).expect("a side");
+    let step = GRID_SIDE / side as u32;
+    let places = (0..count).map(|u| {
+        let (across, down) = ((u % side) as u32 * step, (u / side) as u32 * step);
+        Place::at(across + rng.between(0, step - 1), down + rng.between(0, step - 1))
+    });
+    (places.collect(), side)
+}
+
 /// So many places of this shape; a shape that runs out of cells is filled up from the whole grid.
 pub fn places(rng: &mut Rng, shape: Shape, count: usize) -> Vec<Place> {
     let anchor = anywhere(rng);

@@ -49,9 +49,9 @@ pub fn blocks(rng: &mut Rng, sheet: &Sheet, habit: Habit) -> Vec<Block> {
     blocks
 }
 
-/// The tightest true ratios of a block for these places.
-pub fn tightest(map: &Map, roads: &Roads, u: usize, places: &[usize]) -> (u32, u32) {
-    let scaled = |v: usize| RATIO_UNIT * roads.between(u, v);
+/// The tightest true ratios of a block of u for these places, whose road distances from u are given.
+pub fn tightest(map: &Map, u: usize, places: &[usize], distance: impl Fn(usize) -> u64) -> (u32, u32) {
+    let scaled = |v: usize| RATIO_UNIT * distance(v);
     let low = places.iter().map(|&v| scaled(v) / map.crow(u, v).0).min();
     let high = places.iter().map(|&v| scaled(v).div_ceil(map.crow(u, v).0)).max();
     (low.expect("a place") as u32, high.expect("a place") as u32)
@@ -89,7 +89,7 @@ impl Tree<'_> {
     }
 
     fn ratios(&self, rng: &mut Rng, places: &[usize]) -> (u32, u32) {
-        let (low, high) = tightest(self.map, self.roads, self.own, places);
+        let (low, high) = tightest(self.map, self.own, places, |v| self.roads.between(self.own, v));
         if !rng.chance(self.habit.loosen) {
             return (low, high);
         }

@@ -1,0 +1,34 @@
+//! True sheets up to the layout's own limits: nets of many places, whose quadtrees are drawn up fast and to a number of blocks.
+
+mod distances;
+mod nets;
+mod trees;
+
+use crate::inputs::draw::offices;
+use crate::inputs::rng::Rng;
+use crate::rules::sheet::Sheet;
+
+#[derive(Clone, Copy, PartialEq, Debug)]
+pub enum Kind {
+    /// Two-way roads to near places.
+    Near,
+    /// Neighbours of a grid, joined both ways by lengths of their own.
+    Grid,
+    /// As many stages as may leave a place, to near places.
+    Eight,
+    /// One loop post: roads of up to N−1 stages.
+    Loop,
+}
+
+pub const KINDS: [Kind; 4] = [Kind::Near, Kind::Grid, Kind::Eight, Kind::Loop];
+
+/// A true sheet of so many places and offices. It has as many blocks as are wanted, or up to two fewer; but no fewer than the colours
+/// ask for, and no more than one for each pair of places.
+pub fn sheet(kind: Kind, places: usize, blocks: usize, offices_wanted: usize, seed: u64) -> Sheet {
+    let mut rng = Rng::new(seed, places as u64);
+    let (places, stages) = nets::net(&mut rng, kind, places);
+    let offices = offices(&mut rng, places.len(), offices_wanted, places.len());
+    let mut sheet = Sheet { places, stages, blocks: Vec::new(), offices };
+    sheet.blocks = trees::blocks(&sheet, blocks);
+    sheet
+}
