@@ -3,6 +3,7 @@
 use std::ops::RangeInclusive;
 
 pub const WORD_BYTES: usize = 4;
+pub const LONG_WORD_BYTES: usize = 8;
 
 // Counts a section may have.
 pub const PLACES: RangeInclusive<u32> = 1..=1_024;
@@ -26,9 +27,10 @@ pub const LEAVING_MOST: usize = 8;
 pub const RATIO_UNIT: u64 = 1_024;
 pub const CROW_SCALE: u64 = 256;
 
-// Slices lent to a question.
+// Slices lent to a question, in long words; a C host lends the counts too.
 pub const ANSWER_WORDS: usize = 4;
 pub const WORKING_WORDS: usize = 6;
+pub const COUNT_WORDS: usize = 2;
 
 /// No walked length and no end may pass this (number 19).
 pub const END_MOST: u64 = 1 << 40;

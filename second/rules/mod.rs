@@ -1,6 +1,7 @@
-//! Document 01: its numbers, the sheet, the measures, the check, the question and the program.
+//! Document 01: its numbers, the sheet, the measures, the check, the question and the program; and item 1 of document 02.
 
 pub mod check;
+pub mod host;
 pub mod layout;
 pub mod limits;
 pub mod map;

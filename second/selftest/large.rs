@@ -1,6 +1,7 @@
 //! Self test: sheets at the layout maxima, and one record over each of them.
 
 use crate::inputs::draw::trees::tightest;
+use crate::inputs::full;
 use crate::inputs::limit_cases;
 use crate::inputs::marked::{block, stage};
 use crate::inputs::rng::Rng;
@@ -12,7 +13,7 @@ use crate::rules::program::{answer, input_of};
 use crate::rules::refusal::*;
 use crate::rules::roads::Roads;
 use crate::rules::sheet::{Block, Place, Sheet, Stage};
-use crate::selftest::probe::question_asked;
+use crate::selftest::probe::{check_gives, question_asked};
 use crate::tally::Tally;
 
 const SIDE: u32 = 32;
@@ -34,6 +35,7 @@ pub fn run(tally: &mut Tally) {
     tally.same("the grand sheet in the program", answer(&input_of(5, 6, &bytes)).as_str(), "refused 20\n");
     one_over(tally, sheet);
     full_sheet(tally);
+    full_nets(tally);
 }
 
 /// Every count at its largest, and true: stages of length j lead j places on, so that the stage to
@@ -96,4 +98,19 @@ fn full_sheet(tally: &mut Tally) {
     tally.same("a full sheet's bytes", bytes.len(), 65_536);
     let text = answer(&input_of(0, 1, &bytes));
     tally.claim(text.starts_with("1 "), || format!("a full sheet: {text}"));
+}
+
+/// What is drawn for full-size comparisons is true, and has its number of blocks: 40 places have 40 × 39 pairs.
+fn full_nets(tally: &mut Tally) {
+    for kind in full::KINDS {
+        for (places, wanted, least) in [(1, 9, 0), (2, 9, 2), (9, 0, 9), (40, 1_100, 1_098), (40, 9_999, 1_560)] {
+            let name = format!("{kind:?} of {places} places");
+            let sheet = full::sheet(kind, places, wanted, 3, 1);
+            check_gives(tally, &name, &sheet, ACCEPTED);
+            tally.same(&name, [sheet.places.len(), sheet.offices.len()], [places, 3]);
+            let count = sheet.blocks.len();
+            let fits = least <= count && (count <= wanted || wanted == 0);
+            tally.claim(fits, || format!("{name}: {count} blocks where {wanted} are wanted"));
+        }
+    }
 }

@@ -1,6 +1,7 @@
 //! The self test: all its parts, the table of what was met, and the verdict.
 
 mod demands;
+mod host;
 mod large;
 mod oracle;
 mod paper;
@@ -23,9 +24,11 @@ pub fn run(seed: u64, count: u64) -> bool {
     let mut tally = Tally::default();
     part(&mut tally, "the paper's cases", paper::run);
     part(&mut tally, "readings", readings::run);
+    part(&mut tally, "a host's bytes", host::run);
     part(&mut tally, "edges", random::edges);
     part(&mut tally, "layout maxima", large::run);
     part(&mut tally, "random inputs", |t| random::inputs(t, seed, count));
+    part(&mut tally, "walks", |t| random::walks(t, seed, count / 4));
     part(&mut tally, "numbers met", all_were_met);
     print!("acceptances: {}\n{}", tally.acceptances, tally.table());
     for failure in tally.failures.iter().take(FAILURES_SHOWN) {

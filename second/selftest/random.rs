@@ -1,8 +1,11 @@
 //! Self test, parts 2 to 4: every input that `make` can write, held against the second readings.
 
+use crate::inputs::damage::walk::WALK_FAULTS;
+use crate::inputs::draw::{ask_well, true_sheet};
 use crate::inputs::edges;
 use crate::inputs::edges::edge::Due;
 use crate::inputs::make;
+use crate::inputs::rng::Rng;
 use crate::rules::layout;
 use crate::rules::limits::*;
 use crate::rules::program::{answer, printed};
@@ -45,6 +48,20 @@ pub fn inputs(tally: &mut Tally, seed: u64, count: u64) {
         let number = one_sheet(tally, &name, sheet, (q, k));
         tally.claim(index % 2 == 1 || number == ACCEPTED, || format!("{name}: drawn true, refused by {number}"));
         program(tally, &name, sheet, (q, k), number, &text);
+    }
+}
+
+/// Sheets that walks fall over, each asked from two places.
+pub fn walks(tally: &mut Tally, seed: u64, count: u64) {
+    for index in 0..count {
+        let mut rng = Rng::new(seed, index);
+        let mut sheet = true_sheet(&mut rng);
+        WALK_FAULTS[index as usize % WALK_FAULTS.len()](&mut rng, &mut sheet);
+        for _ in 0..2 {
+            let (q, k) = ask_well(&mut rng, &sheet);
+            let name = format!("walk {index} of seed {seed}");
+            one_sheet(tally, &name, &sheet.to_bytes(), (u64::from(q), u64::from(k)));
+        }
     }
 }
 

@@ -1,9 +1,10 @@
-//! Random damage to a true sheet: to its records (layout, truth) or to its bytes.
+//! Random damage to a true sheet: to its records (layout, truth, walks) or to its bytes.
 
 pub mod bytes;
 mod fault;
 mod layout;
 mod truth;
+pub mod walk;
 
 use crate::inputs::rng::Rng;
 use crate::rules::sheet::Sheet;

@@ -5,6 +5,7 @@ use crate::inputs::rng::Rng;
 use crate::rules::map::Map;
 use crate::rules::measure::code_of;
 use crate::rules::sheet::{Block, Sheet};
+use std::collections::BTreeMap;
 
 pub const TRUTH_FAULTS: [Fault; 15] = [
     block_removed,
@@ -56,10 +57,14 @@ fn colour_changed(rng: &mut Rng, sheet: &mut Sheet) {
 }
 
 fn colours_at_random(rng: &mut Rng, sheet: &mut Sheet) {
-    for at in 0..sheet.blocks.len() {
-        let place = sheet.blocks[at].place;
-        let leaving = sheet.stages.iter().filter(|s| s.tail == place).count();
-        sheet.blocks[at].colour = rng.below(leaving) as u32;
+    // Counted once: a full-size sheet has very many blocks.
+    let mut leaving: BTreeMap<u32, usize> = BTreeMap::new();
+    for stage in &sheet.stages {
+        *leaving.entry(stage.tail).or_default() += 1;
+    }
+    for block in &mut sheet.blocks {
+        let count = leaving.get(&block.place).copied().unwrap_or(0);
+        block.colour = rng.below(count) as u32;
     }
 }
 

@@ -1,0 +1,187 @@
+//! Self test: what a C host's bytes hold after the check and the question, by hand from the marked sheet: N = 4, M = 3.
+
+use crate::inputs::marked::{self, block, stage};
+use crate::rules::host::{check, question};
+use crate::rules::refusal::Number;
+use crate::rules::sheet::{Place, Sheet};
+use crate::tally::Tally;
+
+/// D(u,v) of the marked sheet, by u and then v.
+const ROADS: [u32; 16] = [0, 6, 11, 9, 6, 0, 5, 15, 11, 5, 0, 20, 9, 15, 20, 0];
+const TABLE: usize = 64;
+
+/// How long the answer, the working slice and the counts are for k = 2.
+const EXACT: [usize; 3] = [64, 144, 16];
+const NAMES: [&str; 3] = ["answer", "working", "counts"];
+
+pub fn run(tally: &mut Tally) {
+    tables(tally);
+    no_table(tally);
+    listings(tally);
+    short_slices(tally);
+    earlier_numbers(tally);
+    walks_refused(tally);
+    low_bytes_first(tally);
+}
+
+/// What stands in a slice beforehand: no byte like its neighbours, none of them 0.
+fn before(length: usize) -> Vec<u8> {
+    (0..length).map(|i| (i % 251) as u8 + 1).collect()
+}
+
+/// These bytes at the front of a slice of this length, the others as before.
+fn begun(front: &[u8], length: usize) -> Vec<u8> {
+    let mut bytes = before(length);
+    bytes[..front.len()].copy_from_slice(front);
+    bytes
+}
+
+/// Words of 64 bits that are below 256.
+fn long_bytes(words: &[u8]) -> Vec<u8> {
+    words.iter().flat_map(|&word| [word, 0, 0, 0, 0, 0, 0, 0]).collect()
+}
+
+fn checks(tally: &mut Tally, name: &str, sheet: &[u8], length: usize, due: (Number, &[u8])) {
+    let mut distances = before(length);
+    let number = check(sheet, &mut distances);
+    tally.met_check(number);
+    tally.same(name, (number, distances), (due.0, begun(due.1, length)));
+}
+
+/// A question with slices of these lengths; due are the number and what each slice begins with.
+fn asks(
+    tally: &mut Tally,
+    name: &str,
+    sheet: &[u8],
+    (q, k): (u32, u32),
+    lengths: [usize; 3],
+    due: (Number, [&[u8]; 3]),
+) {
+    let [mut answer, mut working, mut counts] = lengths.map(before);
+    let number = question(sheet, q, k, &mut answer, &mut working, &mut counts);
+    tally.met_question(number);
+    tally.same(name, number, due.0);
+    for (i, found) in [answer, working, counts].into_iter().enumerate() {
+        tally.same(&format!("{name}: {}", NAMES[i]), found, begun(due.1[i], lengths[i]));
+    }
+}
+
+fn tables(tally: &mut Tally) {
+    let table: Vec<u8> = ROADS.iter().flat_map(|&road| [road as u8, 0, 0, 0]).collect();
+    let mut untrue = marked::sheet();
+    untrue.blocks[5].low = 65;
+    for length in [TABLE, TABLE + 1, TABLE + 2, TABLE + 3, TABLE + 4, 1_000] {
+        checks(tally, "a table", &marked::sheet().to_bytes(), length, (0, &table));
+        checks(tally, "a table after 14", &untrue.to_bytes(), length, (14, &table));
+    }
+}
+
+fn no_table(tally: &mut Tally) {
+    let mut lost = marked::sheet();
+    lost.stages.pop();
+    lost.blocks.pop();
+    for length in [TABLE, TABLE + 1, TABLE + 7] {
+        checks(tally, "a table after 11", &lost.to_bytes(), length, (11, &[0; TABLE]));
+    }
+    for length in [0, 1, 16, TABLE - 4, TABLE - 1] {
+        checks(tally, "10", &marked::sheet().to_bytes(), length, (10, &[]));
+        checks(tally, "10 before 11", &lost.to_bytes(), length, (10, &[]));
+        checks(tally, "1 before 10", &[0; 7], length, (1, &[]));
+        checks(tally, "2 before 10", &[0; 8], length, (2, &[]));
+    }
+    checks(tally, "1 with room", &[], 1_000, (1, &[]));
+}
+
+fn listings(tally: &mut Tally) {
+    let sheet = marked::sheet().to_bytes();
+    let list = long_bytes(&[2, 5, 5, 1, 0, 11, 11, 2]);
+    let counts = long_bytes(&[2, 5]);
+    for more in [[0, 0, 0], [1, 0, 0], [0, 1, 0], [0, 0, 1], [7, 5, 3], [8, 8, 8], [900, 800, 700]] {
+        let lengths = [0, 1, 2].map(|i| EXACT[i] + more[i]);
+        asks(tally, "k = 2", &sheet, (2, 2), lengths, (0, [&list, &[0; 144], &counts]));
+    }
+    let counts = long_bytes(&[1, 1]);
+    asks(tally, "k = 1", &sheet, (2, 1), EXACT, (0, [&list[..32], &[0; 144], &counts]));
+    asks(tally, "k = 1, 32 bytes", &sheet, (2, 1), [32, 144, 16], (0, [&list[..32], &[0; 144], &counts]));
+    asks(tally, "k = 1, 31 bytes", &sheet, (2, 1), [31, 144, 16], (9, [&[], &[], &[0; 16]]));
+}
+
+fn short_slices(tally: &mut Tally) {
+    let sheet = marked::sheet().to_bytes();
+    let mut nine = |lengths: [usize; 3], counts: &[u8]| {
+        asks(tally, "9", &sheet, (2, 2), lengths, (9, [&[], &[], counts]));
+    };
+    for counts in [16, 17, 1_000] {
+        nine([63, 144, counts], &[0; 16]);
+        nine([64, 143, counts], &[0; 16]);
+        nine([56, 136, counts], &[0; 16]);
+        nine([0, 144, counts], &[0; 16]);
+        nine([64, 0, counts], &[0; 16]);
+    }
+    for counts in [0, 1, 8, 15] {
+        nine([64, 144, counts], &[]);
+        nine([1_000, 1_000, counts], &[]);
+        nine([63, 143, counts], &[]);
+    }
+}
+
+/// 1 to 8 come before 9, and clear counts that have their 16 bytes.
+fn earlier_numbers(tally: &mut Tally) {
+    let sheet = marked::sheet().to_bytes();
+    for slices in [[0, 0], [64, 144], [100, 200]] {
+        for counts in [0, 7, 15, 16, 17, 40] {
+            let lengths = [slices[0], slices[1], counts];
+            let cleared: &[u8] = if counts < 16 { &[] } else { &[0; 16] };
+            let left = |number| (number, [&[][..], &[], cleared]);
+            asks(tally, "k = 0", &sheet, (2, 0), lengths, left(8));
+            asks(tally, "k = 4", &sheet, (2, 4), lengths, left(8));
+            asks(tally, "k of all bits", &sheet, (2, u32::MAX), lengths, left(8));
+            asks(tally, "q = 4", &sheet, (4, 0), lengths, left(7));
+            asks(tally, "q of all bits", &sheet, (u32::MAX, 2), lengths, left(7));
+            asks(tally, "a sheet cut", &sheet[..299], (4, 0), lengths, left(1));
+            asks(tally, "no sheet", &[], (2, 2), lengths, left(1));
+        }
+    }
+}
+
+/// Places 0 and 1 send every letter to each other, and two offices wait at place 2.
+fn round_and_round() -> Sheet {
+    Sheet {
+        places: vec![Place::at(0, 0), Place::at(1, 0), Place::at(9, 9)],
+        stages: vec![stage([0, 1, 1]), stage([1, 0, 1]), stage([2, 0, 1])],
+        blocks: vec![block([0, 0, 10, 0, 0, 5_000]), block([1, 0, 10, 0, 0, 5_000])],
+        offices: vec![2, 2],
+    }
+}
+
+fn walks_refused(tally: &mut Tally) {
+    let round = round_and_round();
+    let mut unseen = round_and_round();
+    unseen.blocks.remove(1);
+    let mut crossed = round_and_round();
+    crossed.blocks[1] = block([1, 0, 10, 0, 10_000, 10_000]);
+    for (sheet, due) in [(round, 16), (unseen, 17), (crossed, 18)] {
+        let (sheet, cleared) = (sheet.to_bytes(), (due, [&[0; 32][..], &[0; 96], &[0; 16]]));
+        asks(tally, "a walk", &sheet, (0, 1), [32, 96, 16], cleared);
+        asks(tally, "a walk, bytes beyond", &sheet, (0, 1), [47, 103, 23], cleared);
+        asks(tally, "a walk, no counts", &sheet, (0, 1), [32, 96, 15], (9, [&[], &[], &[]]));
+        asks(tally, "a walk, short working", &sheet, (0, 1), [32, 95, 16], (9, [&[], &[], &[0; 16]]));
+    }
+}
+
+/// Two places whose road is 258 furlongs, 2 and 1 × 256; 16,512 × 16 / 1,024 is 258.
+fn low_bytes_first(tally: &mut Tally) {
+    let sheet = Sheet {
+        places: vec![Place::at(0, 0), Place::at(1, 0)],
+        stages: vec![stage([0, 1, 258]), stage([1, 0, 258])],
+        blocks: [0, 1].map(|u| block([u, 0, 10, 0, 16_512, 16_512])).to_vec(),
+        offices: vec![1],
+    };
+    let table = [0, 0, 0, 0, 2, 1, 0, 0, 2, 1, 0, 0, 0, 0, 0, 0];
+    checks(tally, "a table of two bytes", &sheet.to_bytes(), 17, (0, &table));
+    let mut list = [0; 32];
+    list[8..10].copy_from_slice(&[2, 1]);
+    list[16..18].copy_from_slice(&[2, 1]);
+    let counts = [1, 0, 0, 0, 0, 0, 0, 0, 0, 0, 0, 0, 0, 0, 0, 0];
+    asks(tally, "a list of two bytes", &sheet.to_bytes(), (0, 1), [33, 49, 17], (0, [&list, &[0; 48], &counts]));
+}
