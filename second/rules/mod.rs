@@ -1,4 +1,4 @@
-//! Document 01: its numbers, the sheet, the measures, the check, the question and the program; and item 1 of document 02.
+//! Document 01: its numbers, the sheet, the measures, the check, the question and the program; item 1 of document 02.
 
 pub mod check;
 pub mod host;

@@ -1,4 +1,4 @@
-//! Road distances from one place to all others, by Dijkstra: for true sheets of a size for which all pairs by Floyd and Warshall are slow.
+//! Road distances from one place to all others, by Dijkstra: all pairs by Floyd and Warshall are slow at full size.
 
 use crate::rules::map::Map;
 use std::cmp::Reverse;

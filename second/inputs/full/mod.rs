@@ -1,4 +1,4 @@
-//! True sheets up to the layout's own limits: nets of many places, whose quadtrees are drawn up fast and to a number of blocks.
+//! True sheets up to the layout's own limits: nets of many places, quadtrees drawn up fast and to a number of blocks.
 
 mod distances;
 mod nets;
@@ -22,8 +22,8 @@ pub enum Kind {
 
 pub const KINDS: [Kind; 4] = [Kind::Near, Kind::Grid, Kind::Eight, Kind::Loop];
 
-/// A true sheet of so many places and offices. It has as many blocks as are wanted, or up to two fewer; but no fewer than the colours
-/// ask for, and no more than one for each pair of places.
+/// A true sheet of so many places and offices. It has as many blocks as are wanted, or up to two fewer; but no fewer than
+/// the colours ask for, and no more than one for each pair of places.
 pub fn sheet(kind: Kind, places: usize, blocks: usize, offices_wanted: usize, seed: u64) -> Sheet {
     let mut rng = Rng::new(seed, places as u64);
     let (places, stages) = nets::net(&mut rng, kind, places);

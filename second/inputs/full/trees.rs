@@ -1,5 +1,5 @@
-//! Quadtrees with the lowest colours and the tightest ratios: of the fewest blocks, the fullest of which are split on until there are so
-//! many as wanted.
+//! Quadtrees with the lowest colours and the tightest ratios: of the fewest blocks, the fullest of which are split on
+//! until there are so many as wanted.
 
 use crate::inputs::draw::trees::tightest;
 use crate::inputs::full::distances::distances_from;

@@ -1,0 +1,96 @@
+//! The calls that are made on a sheet: q and k in and out of range, and slices at, about and far from their limits.
+
+use crate::call::{Ask, Call};
+use crate::guarded::Guard;
+use crate::inputs::draw::ask;
+use crate::inputs::rng::Rng;
+use crate::rules::limits::*;
+use crate::rules::sheet::Sheet;
+
+const COUNTS_BYTES: usize = COUNT_WORDS * LONG_WORD_BYTES;
+
+/// What the lengths of a sheet's slices are measured by.
+pub struct Sizes {
+    places: usize,
+    offices: usize,
+}
+
+impl Sizes {
+    /// Those of the counts; a sheet without them is asked as if it were small.
+    pub fn of(sheet: Option<&Sheet>) -> Sizes {
+        sheet.map_or(Sizes { places: 3, offices: 2 }, |s| Sizes { places: s.places.len(), offices: s.offices.len() })
+    }
+
+    fn distances(&self) -> usize {
+        WORD_BYTES * self.places * self.places
+    }
+
+    fn answer(&self, k: u32) -> usize {
+        ANSWER_WORDS * LONG_WORD_BYTES * (k as usize).min(self.offices + 1)
+    }
+
+    fn working(&self) -> usize {
+        WORKING_WORDS * LONG_WORD_BYTES * self.offices
+    }
+}
+
+pub fn call(rng: &mut Rng, ask: Ask) -> Call {
+    let guards = [(); 3].map(|()| rng.pick(&[Guard::Before, Guard::After]));
+    Call { ask, salt: rng.next(), guards }
+}
+
+/// A check whose slice is long enough.
+pub fn checked(rng: &mut Rng, sizes: &Sizes) -> Call {
+    let length = enough(rng, sizes.distances());
+    call(rng, Ask::Check(length))
+}
+
+/// A check whose slice is too short.
+pub fn check_short(rng: &mut Rng, sizes: &Sizes) -> Call {
+    let length = short(rng, sizes.distances());
+    call(rng, Ask::Check(length))
+}
+
+/// A question of which at most one slice is too short.
+pub fn question(rng: &mut Rng, sizes: &Sizes, (q, k): (u32, u32)) -> Call {
+    let exact = [sizes.answer(k), sizes.working(), COUNTS_BYTES];
+    let mut lengths = exact.map(|length| enough(rng, length));
+    let changed = rng.below(6);
+    if changed < 3 {
+        lengths[changed] = short(rng, exact[changed]);
+    }
+    call(rng, Ask::Question(q, k, lengths))
+}
+
+/// q and k for a sheet: mostly valid, else at the edges of their ranges and of their words.
+pub fn place_and_number(rng: &mut Rng, sheet: Option<&Sheet>, sizes: &Sizes) -> (u32, u32) {
+    if let (Some(sheet), true) = (sheet, rng.chance(11)) {
+        return ask(rng, sheet);
+    }
+    let (places, offices) = (sizes.places as u32, sizes.offices as u32);
+    let q = rng.pick(&[0, 0, places / 2, places - 1, places - 1, places, places + 1, 1 << 31, u32::MAX]);
+    // 32 × 2^27 is no 32-bit number any more.
+    let k = rng.pick(&[0, 1, 1, offices, offices, offices, offices + 1, 1 << 27, 1 << 29, u32::MAX]);
+    (q, k)
+}
+
+fn enough(rng: &mut Rng, exact: usize) -> usize {
+    match rng.below(8) {
+        0..=3 => exact,
+        4 => exact + 1,
+        5 | 6 => exact + 2 + rng.below(14),
+        _ => exact + 1_000 + rng.below(9_000),
+    }
+}
+
+/// Under the limit where that is not 0: by one byte, by a word, by most or by all.
+fn short(rng: &mut Rng, exact: usize) -> usize {
+    match rng.below(8) {
+        0..=2 => exact.saturating_sub(1),
+        3 => exact.saturating_sub(WORD_BYTES),
+        4 => exact.saturating_sub(LONG_WORD_BYTES),
+        5 => rng.below(exact),
+        6 => rng.below(exact.min(LONG_WORD_BYTES)),
+        _ => 0,
+    }
+}

@@ -1,0 +1,72 @@
+//! Compares the library, through its two C functions, with the second program's account of a host's bytes: the number
+//! and every byte of every slice, on true and damaged sheets.
+
+mod call;
+mod crash;
+mod guarded;
+#[allow(dead_code)]
+#[path = "../second/inputs/mod.rs"]
+mod inputs;
+mod lengths;
+mod library;
+#[allow(dead_code)]
+#[path = "../second/rules/mod.rs"]
+mod rules;
+mod run;
+mod sheets;
+mod table;
+#[allow(dead_code)]
+#[path = "../second/tally.rs"]
+mod tally;
+mod threads;
+mod which;
+
+use std::io::{self, Write};
+use std::process::ExitCode;
+use table::Table;
+use which::{Part, Which};
+
+const USAGE: &str = "usage: compare SEED SMALL FULL: so many sheets of program size, so many nets of full size, and threads
+       compare small | full | threads SEED INDEX: one of these again, as a difference names it";
+
+fn main() -> ExitCode {
+    let arguments: Vec<String> = std::env::args().skip(1).collect();
+    let words: Vec<&str> = arguments.iter().map(String::as_str).collect();
+    crash::watch();
+    let Some((table, missed)) = run(&words) else {
+        eprintln!("{USAGE}");
+        return ExitCode::from(2);
+    };
+    let missed_lines: String = missed.iter().map(|what| format!("NOT MET {what}\n")).collect();
+    let text = format!("{}{missed_lines}{}\n", table.text(), table.totals());
+    if let Err(error) = io::stdout().write_all(text.as_bytes()) {
+        eprintln!("compare: {error}");
+        return ExitCode::FAILURE;
+    }
+    if table.same() && missed.is_empty() { ExitCode::SUCCESS } else { ExitCode::FAILURE }
+}
+
+/// Nothing when the words are no command; else what was counted, and what a whole comparison did not meet.
+fn run(words: &[&str]) -> Option<(Table, Vec<String>)> {
+    let &[first, second, third] = words else {
+        return None;
+    };
+    let number = |word: &str| word.parse::<u64>().ok();
+    if let Some(part) = Part::named(first) {
+        let which = Which { part, seed: number(second)?, index: number(third)? };
+        let table = if part == Part::Threads { threads::at_once(which) } else { run::all(&[which]) };
+        return Some((table, Vec::new()));
+    }
+    let table = whole(number(first)?, number(second)?, number(third)?);
+    let missed = table.missed();
+    Some((table, missed))
+}
+
+/// The large ones first, so that no thread is left alone with one.
+fn whole(seed: u64, small: u64, full: u64) -> Table {
+    let mut work: Vec<Which> = (0..full).map(|index| Which { part: Part::Full, seed, index }).collect();
+    work.extend((0..small).map(|index| Which { part: Part::Small, seed, index }));
+    let mut table = run::all(&work);
+    table.add(threads::at_once(Which { part: Part::Threads, seed, index: 0 }));
+    table
+}

@@ -1,0 +1,115 @@
+//! Compares all calls on one sheet, and shares many sheets out to threads.
+
+use crate::call::{Ask, Call, Slices};
+use crate::crash::calling;
+use crate::guarded::{Guard, Guarded};
+use crate::inputs::edges;
+use crate::inputs::edges::edge::Edge;
+use crate::inputs::rng::Rng;
+use crate::lengths::{check_short, checked, place_and_number, question, Sizes};
+use crate::rules::refusal::ACCEPTED;
+use crate::rules::sheet::Sheet;
+use crate::sheets;
+use crate::table::Table;
+use crate::which::{Part, Which};
+use std::sync::atomic::{AtomicUsize, Ordering};
+use std::thread;
+
+/// The bytes of a sheet of 1,024 places, 8,192 stages, 262,144 blocks and 4,096 offices.
+const LARGEST: usize = 6_414_352;
+
+const SMALL_QUESTIONS: usize = 6;
+const FULL_QUESTIONS: usize = 5;
+
+/// The stack of a C program's first thread.
+pub const STACK: usize = 8 << 20;
+
+struct Bench<'a> {
+    edges: &'a [Edge],
+    slices: Slices,
+    table: Table,
+}
+
+/// All these sheets, each by the next thread that is free.
+pub fn all(work: &[Which]) -> Table {
+    let edges = edges::all();
+    let next = AtomicUsize::new(0);
+    let worker = || {
+        let mut bench = Bench { edges: &edges, slices: Slices::new(), table: Table::default() };
+        while let Some(which) = work.get(next.fetch_add(1, Ordering::Relaxed)) {
+            bench.one(*which);
+        }
+        bench.table
+    };
+    let mut table = Table::default();
+    thread::scope(|scope| {
+        let count = thread::available_parallelism().map_or(1, usize::from);
+        let start = |_| thread::Builder::new().stack_size(STACK).spawn_scoped(scope, worker).expect("a thread");
+        let workers: Vec<_> = (0..count).map(start).collect();
+        for worker in workers {
+            table.add(worker.join().expect("a thread that ends"));
+        }
+    });
+    table
+}
+
+impl Bench<'_> {
+    fn one(&mut self, which: Which) {
+        // Apart from the streams of the makers.
+        let mut rng = Rng::new(!which.seed, which.index);
+        if which.part == Part::Small {
+            let bytes = sheets::small(&mut rng, which.seed, which.index, self.edges);
+            self.small(&mut rng, which, &bytes);
+        } else {
+            for (form, sheet) in sheets::full(&mut rng, which.seed, which.index).iter().enumerate() {
+                self.full(&mut rng, which, sheet, form);
+            }
+        }
+    }
+
+    fn small(&mut self, rng: &mut Rng, which: Which, bytes: &[u8]) {
+        let sheet = Sheet::from_bytes(bytes).ok();
+        let sizes = Sizes::of(sheet.as_ref());
+        let mut calls = vec![check_short(rng, &sizes), checked(rng, &sizes), checked(rng, &sizes)];
+        for _ in 0..SMALL_QUESTIONS {
+            let asked = place_and_number(rng, sheet.as_ref(), &sizes);
+            calls.push(question(rng, &sizes, asked));
+        }
+        self.table.small += 1;
+        self.calls(rng, which, bytes, &calls);
+    }
+
+    /// A check of a full-size sheet takes the second program a second, so not every form is checked each time.
+    fn full(&mut self, rng: &mut Rng, which: Which, sheet: &Sheet, form: usize) {
+        let sizes = Sizes::of(Some(sheet));
+        let mut calls = vec![check_short(rng, &sizes)];
+        if form == 0 || which.index as usize % 4 == form % 4 {
+            calls.push(checked(rng, &sizes));
+        }
+        for turn in 0..FULL_QUESTIONS {
+            let (q, k) = place_and_number(rng, Some(sheet), &sizes);
+            let few = rng.pick(&[1, 10, 100]);
+            calls.push(question(rng, &sizes, (q, if turn == 0 { k } else { k.min(few) })));
+        }
+        self.table.full += 1;
+        self.calls(rng, which, &sheet.to_bytes(), &calls);
+    }
+
+    fn calls(&mut self, rng: &mut Rng, which: Which, bytes: &[u8], calls: &[Call]) {
+        let sheet = Guarded::holding(bytes, rng.pick(&[Guard::Before, Guard::After]));
+        for call in calls {
+            calling(which, call.ask);
+            let due = call.due(bytes);
+            let found = call.found(&sheet, bytes, &mut self.slices);
+            match call.ask {
+                Ask::Check(_) => self.table.met_check(due.number),
+                Ask::Question(..) => self.table.met_question(due.number),
+            }
+            let largest = bytes.len() == LARGEST && due.number == ACCEPTED && matches!(call.ask, Ask::Check(_));
+            self.table.largest += u64::from(largest);
+            if let Some(difference) = call.difference(&found, &due) {
+                self.table.differ(format!("{which}: {}: {difference}", call.ask));
+            }
+        }
+    }
+}

@@ -1,0 +1,56 @@
+//! Which sheets are compared: of program size by the second program's makers, and of full size, each in a true form and
+//! in damaged ones.
+
+use crate::inputs::damage;
+use crate::inputs::damage::walk::{goes_round, WALK_FAULTS};
+use crate::inputs::draw::true_sheet;
+use crate::inputs::edges::edge::Edge;
+use crate::inputs::full;
+use crate::inputs::make;
+use crate::inputs::rng::Rng;
+use crate::rules::limits::*;
+use crate::rules::sheet::{Place, Sheet};
+
+/// Every fourth sheet is one that walks fall over; the others are those that the programs are compared on.
+pub fn small(rng: &mut Rng, seed: u64, index: u64, edges: &[Edge]) -> Vec<u8> {
+    if index % 4 < 3 {
+        let mut input = make::input(seed, index / 4 * 3 + index % 4, edges);
+        return input.split_off(PROGRAM_HEAD_BYTES.min(input.len()));
+    }
+    let mut sheet = true_sheet(rng);
+    rng.pick(&WALK_FAULTS)(rng, &mut sheet);
+    sheet.to_bytes()
+}
+
+/// A full-size net in five forms: true; with walks that go round; with other walks that fail; with any damage; with a
+/// section that is one record too long. The second program takes up to M × N steps where walks go round and looks at
+/// all M offices in each: there, and on loop posts, M is small.
+pub fn full(rng: &mut Rng, seed: u64, index: u64) -> [Sheet; 5] {
+    let turn = index as usize;
+    let kind = full::KINDS[turn % full::KINDS.len()];
+    let most = *OFFICES.end() as usize;
+    let offices = if kind == full::Kind::Loop { 20 } else { [most, most - 1, 1_000][turn / 4 % 3] };
+    let blocks = [*BLOCKS.end() as usize, 0, 200_000][turn / 4 % 3];
+    let sheet = full::sheet(kind, *PLACES.end() as usize, blocks, offices, seed.wrapping_add(index));
+    let mut round = sheet.clone();
+    round.offices.truncate(20);
+    goes_round(rng, &mut round);
+    let mut fallen = sheet.clone();
+    WALK_FAULTS[1 + turn % 3](rng, &mut fallen);
+    let mut damaged = sheet.clone();
+    damaged.offices.truncate(100);
+    let damaged = damage::damaged(rng, &damaged);
+    let over = one_over(&sheet, turn % 4);
+    [sheet, round, fallen, damaged, over]
+}
+
+fn one_over(sheet: &Sheet, section: usize) -> Sheet {
+    let mut over = sheet.clone();
+    match section {
+        0 => over.places.push(Place::at(0, 0)),
+        1 => over.stages.resize(*STAGES.end() as usize + 1, sheet.stages[0]),
+        2 => over.blocks.resize(*BLOCKS.end() as usize + 1, sheet.blocks[0]),
+        _ => over.offices.resize(*OFFICES.end() as usize + 1, 0),
+    }
+    over
+}
