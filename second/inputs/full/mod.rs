@@ -1,26 +1,14 @@
 //! True sheets up to the layout's own limits: nets of many places, quadtrees drawn up fast and to a number of blocks.
 
 mod distances;
+mod kind;
 mod nets;
 mod trees;
 
 use crate::inputs::draw::offices;
 use crate::inputs::rng::Rng;
 use crate::rules::sheet::Sheet;
-
-#[derive(Clone, Copy, PartialEq, Debug)]
-pub enum Kind {
-    /// Two-way roads to near places.
-    Near,
-    /// Neighbours of a grid, joined both ways by lengths of their own.
-    Grid,
-    /// As many stages as may leave a place, to near places.
-    Eight,
-    /// One loop post: roads of up to N−1 stages.
-    Loop,
-}
-
-pub const KINDS: [Kind; 4] = [Kind::Near, Kind::Grid, Kind::Eight, Kind::Loop];
+pub use kind::{Kind, KINDS};
 
 /// A true sheet of so many places and offices. It has as many blocks as are wanted, or up to two fewer; but no fewer than
 /// the colours ask for, and no more than one for each pair of places.

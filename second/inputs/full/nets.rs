@@ -2,7 +2,7 @@
 
 use crate::inputs::draw::net::{Drawing, Lengths};
 use crate::inputs::draw::places::{in_rows, places, Shape};
-use crate::inputs::full::Kind;
+use crate::inputs::full::kind::Kind;
 use crate::inputs::rng::Rng;
 use crate::rules::limits::LEAVING_MOST;
 use crate::rules::measure::crow;
