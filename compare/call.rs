@@ -61,7 +61,7 @@ fn fill(bytes: &mut [u8], salt: u64) {
 }
 
 impl Call {
-    fn lengths(&self) -> Vec<usize> {
+    pub fn lengths(&self) -> Vec<usize> {
         match self.ask {
             Ask::Check(bytes) => vec![bytes],
             Ask::Question(_, _, lengths) => lengths.to_vec(),

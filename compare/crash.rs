@@ -1,4 +1,4 @@
-//! Says in which call the library crashed: an unreadable page beside a slice was touched.
+//! Says in which call the library crashed, as by touching the unreadable page beside a slice.
 
 use crate::call::Ask;
 use crate::which::Which;
@@ -6,8 +6,8 @@ use std::cell::Cell;
 use std::ffi::c_void;
 use std::io::{Cursor, Write};
 
-const BUS: i32 = 7;
-const SEGMENT: i32 = 11;
+/// Bad instruction, abort, bus, bad number and segment, as Linux numbers them.
+const CRASHES: [i32; 5] = [4, 6, 7, 8, 11];
 const STANDARD_OUTPUT: i32 = 1;
 const LINE_MOST: usize = 400;
 
@@ -27,10 +27,9 @@ pub fn calling(which: Which, ask: Ask) {
 }
 
 pub fn watch() {
-    // SAFETY: the action only writes and ends the program.
-    unsafe {
-        signal(BUS, crashed);
-        signal(SEGMENT, crashed);
+    for number in CRASHES {
+        // SAFETY: the action only writes and ends the program.
+        unsafe { signal(number, crashed) };
     }
 }
 
@@ -38,7 +37,7 @@ pub fn watch() {
 extern "C" fn crashed(_: i32) {
     let mut line = Cursor::new([0u8; LINE_MOST]);
     let said = match CALLING.get() {
-        Some((which, ask)) => writeln!(line, "DIFFERS {which}: {ask}: a crash, by a byte outside its slices"),
+        Some((which, ask)) => writeln!(line, "DIFFERS {which}: {ask}: a crash, as by a byte outside its slices"),
         None => writeln!(line, "compare: a crash outside of all calls"),
     };
     let length = if said.is_ok() { line.position() as usize } else { 0 };

@@ -51,11 +51,11 @@ pub fn check_short(rng: &mut Rng, sizes: &Sizes) -> Call {
     call(rng, Ask::Check(length))
 }
 
-/// A question of which at most one slice is too short.
+/// A question of which at most one slice is too short, mostly none.
 pub fn question(rng: &mut Rng, sizes: &Sizes, (q, k): (u32, u32)) -> Call {
     let exact = [sizes.answer(k), sizes.working(), COUNTS_BYTES];
     let mut lengths = exact.map(|length| enough(rng, length));
-    let changed = rng.below(6);
+    let changed = rng.below(8);
     if changed < 3 {
         lengths[changed] = short(rng, exact[changed]);
     }
@@ -64,7 +64,7 @@ pub fn question(rng: &mut Rng, sizes: &Sizes, (q, k): (u32, u32)) -> Call {
 
 /// q and k for a sheet: mostly valid, else at the edges of their ranges and of their words.
 pub fn place_and_number(rng: &mut Rng, sheet: Option<&Sheet>, sizes: &Sizes) -> (u32, u32) {
-    if let (Some(sheet), true) = (sheet, rng.chance(11)) {
+    if let (Some(sheet), true) = (sheet, rng.chance(13)) {
         return ask(rng, sheet);
     }
     let (places, offices) = (sizes.places as u32, sizes.offices as u32);

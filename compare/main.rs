@@ -23,31 +23,29 @@ mod which;
 
 use std::io::{self, Write};
 use std::process::ExitCode;
-use table::Table;
+use table::{Scope, Table};
 use which::{Part, Which};
 
-const USAGE: &str = "usage: compare SEED SMALL FULL: so many sheets of program size, so many nets of full size, and threads
+const USAGE: &str = "usage: compare SEED SMALL FULL: SMALL sheets of program size, FULL nets of full size, and threads
        compare small | full | threads SEED INDEX: one of these again, as a difference names it";
 
 fn main() -> ExitCode {
     let arguments: Vec<String> = std::env::args().skip(1).collect();
     let words: Vec<&str> = arguments.iter().map(String::as_str).collect();
     crash::watch();
-    let Some((table, missed)) = run(&words) else {
+    let Some((table, scope)) = run(&words) else {
         eprintln!("{USAGE}");
         return ExitCode::from(2);
     };
-    let missed_lines: String = missed.iter().map(|what| format!("NOT MET {what}\n")).collect();
-    let text = format!("{}{missed_lines}{}\n", table.text(), table.totals());
-    if let Err(error) = io::stdout().write_all(text.as_bytes()) {
+    if let Err(error) = io::stdout().write_all(table.text(scope).as_bytes()) {
         eprintln!("compare: {error}");
         return ExitCode::FAILURE;
     }
-    if table.same() && missed.is_empty() { ExitCode::SUCCESS } else { ExitCode::FAILURE }
+    if table.is_good(scope) { ExitCode::SUCCESS } else { ExitCode::FAILURE }
 }
 
-/// Nothing when the words are no command; else what was counted, and what a whole comparison did not meet.
-fn run(words: &[&str]) -> Option<(Table, Vec<String>)> {
+/// Nothing when the words are no command; else what was counted.
+fn run(words: &[&str]) -> Option<(Table, Scope)> {
     let &[first, second, third] = words else {
         return None;
     };
@@ -55,11 +53,9 @@ fn run(words: &[&str]) -> Option<(Table, Vec<String>)> {
     if let Some(part) = Part::named(first) {
         let which = Which { part, seed: number(second)?, index: number(third)? };
         let table = if part == Part::Threads { threads::at_once(which) } else { run::all(&[which]) };
-        return Some((table, Vec::new()));
+        return Some((table, Scope::Again));
     }
-    let table = whole(number(first)?, number(second)?, number(third)?);
-    let missed = table.missed();
-    Some((table, missed))
+    Some((whole(number(first)?, number(second)?, number(third)?), Scope::Whole))
 }
 
 /// The large ones first, so that no thread is left alone with one.

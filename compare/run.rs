@@ -1,22 +1,18 @@
 //! Compares all calls on one sheet, and shares many sheets out to threads.
 
-use crate::call::{Ask, Call, Slices};
+use crate::call::{Call, Slices};
 use crate::crash::calling;
 use crate::guarded::{Guard, Guarded};
 use crate::inputs::edges;
 use crate::inputs::edges::edge::Edge;
 use crate::inputs::rng::Rng;
 use crate::lengths::{check_short, checked, place_and_number, question, Sizes};
-use crate::rules::refusal::ACCEPTED;
 use crate::rules::sheet::Sheet;
 use crate::sheets;
 use crate::table::Table;
 use crate::which::{Part, Which};
 use std::sync::atomic::{AtomicUsize, Ordering};
 use std::thread;
-
-/// The bytes of a sheet of 1,024 places, 8,192 stages, 262,144 blocks and 4,096 offices.
-const LARGEST: usize = 6_414_352;
 
 const SMALL_QUESTIONS: usize = 6;
 const FULL_QUESTIONS: usize = 5;
@@ -61,8 +57,8 @@ impl Bench<'_> {
             let bytes = sheets::small(&mut rng, which.seed, which.index, self.edges);
             self.small(&mut rng, which, &bytes);
         } else {
-            for (form, sheet) in sheets::full(&mut rng, which.seed, which.index).iter().enumerate() {
-                self.full(&mut rng, which, sheet, form);
+            for (form, bytes) in sheets::full(&mut rng, which.seed, which.index).iter().enumerate() {
+                self.full(&mut rng, which, bytes, form);
             }
         }
     }
@@ -80,19 +76,20 @@ impl Bench<'_> {
     }
 
     /// A check of a full-size sheet takes the second program a second, so not every form is checked each time.
-    fn full(&mut self, rng: &mut Rng, which: Which, sheet: &Sheet, form: usize) {
-        let sizes = Sizes::of(Some(sheet));
+    fn full(&mut self, rng: &mut Rng, which: Which, bytes: &[u8], form: usize) {
+        let sheet = Sheet::from_bytes(bytes).ok();
+        let sizes = Sizes::of(sheet.as_ref());
         let mut calls = vec![check_short(rng, &sizes)];
-        if form == 0 || which.index as usize % 4 == form % 4 {
+        if form == 0 || which.index as usize % 3 == form % 3 {
             calls.push(checked(rng, &sizes));
         }
         for turn in 0..FULL_QUESTIONS {
-            let (q, k) = place_and_number(rng, Some(sheet), &sizes);
+            let (q, k) = place_and_number(rng, sheet.as_ref(), &sizes);
             let few = rng.pick(&[1, 10, 100]);
             calls.push(question(rng, &sizes, (q, if turn == 0 { k } else { k.min(few) })));
         }
         self.table.full += 1;
-        self.calls(rng, which, &sheet.to_bytes(), &calls);
+        self.calls(rng, which, bytes, &calls);
     }
 
     fn calls(&mut self, rng: &mut Rng, which: Which, bytes: &[u8], calls: &[Call]) {
@@ -101,12 +98,7 @@ impl Bench<'_> {
             calling(which, call.ask);
             let due = call.due(bytes);
             let found = call.found(&sheet, bytes, &mut self.slices);
-            match call.ask {
-                Ask::Check(_) => self.table.met_check(due.number),
-                Ask::Question(..) => self.table.met_question(due.number),
-            }
-            let largest = bytes.len() == LARGEST && due.number == ACCEPTED && matches!(call.ask, Ask::Check(_));
-            self.table.largest += u64::from(largest);
+            self.table.met(call, bytes, due.number);
             if let Some(difference) = call.difference(&found, &due) {
                 self.table.differ(format!("{which}: {}: {difference}", call.ask));
             }

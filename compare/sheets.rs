@@ -22,26 +22,29 @@ pub fn small(rng: &mut Rng, seed: u64, index: u64, edges: &[Edge]) -> Vec<u8> {
     sheet.to_bytes()
 }
 
-/// A full-size net in five forms: true; with walks that go round; with other walks that fail; with any damage; with a
-/// section that is one record too long. The second program takes up to M × N steps where walks go round and looks at
-/// all M offices in each: there, and on loop posts, M is small.
-pub fn full(rng: &mut Rng, seed: u64, index: u64) -> [Sheet; 5] {
+/// A full-size net in its forms: true; with walks that go round; with other walks that fail; with any damage, twice;
+/// with a section that is one record too long; with some bytes too few or too many. The second program takes up to
+/// M × N steps where walks go round and looks at all M offices in each: there, and on loop posts, M is small.
+pub fn full(rng: &mut Rng, seed: u64, index: u64) -> Vec<Vec<u8>> {
     let turn = index as usize;
     let kind = full::KINDS[turn % full::KINDS.len()];
     let most = *OFFICES.end() as usize;
     let offices = if kind == full::Kind::Loop { 20 } else { [most, most - 1, 1_000][turn / 4 % 3] };
     let blocks = [*BLOCKS.end() as usize, 0, 200_000][turn / 4 % 3];
     let sheet = full::sheet(kind, *PLACES.end() as usize, blocks, offices, seed.wrapping_add(index));
-    let mut round = sheet.clone();
-    round.offices.truncate(20);
+    let few = |count: usize| Sheet { offices: sheet.offices[..count.min(offices)].to_vec(), ..sheet.clone() };
+    let mut round = few(20);
     goes_round(rng, &mut round);
     let mut fallen = sheet.clone();
     WALK_FAULTS[1 + turn % 3](rng, &mut fallen);
-    let mut damaged = sheet.clone();
-    damaged.offices.truncate(100);
-    let damaged = damage::damaged(rng, &damaged);
+    let damaged = damage::damaged(rng, &few(100));
+    let again = damage::damaged(rng, &few(100));
     let over = one_over(&sheet, turn % 4);
-    [sheet, round, fallen, damaged, over]
+    let mut cut = sheet.to_bytes();
+    cut.resize(cut.len() + 5 - rng.pick(&[1, 4, 6, 9]), 0);
+    let mut forms: Vec<Vec<u8>> = [sheet, round, fallen, damaged, again, over].iter().map(Sheet::to_bytes).collect();
+    forms.push(cut);
+    forms
 }
 
 fn one_over(sheet: &Sheet, section: usize) -> Sheet {

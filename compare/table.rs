@@ -1,5 +1,9 @@
-//! The count of sheets, calls and differences, and of how often each function was due to give each number.
+//! The count of sheets, calls and differences, of how often each function was due to give each number, and of how often
+//! each bad input was lent.
 
+use crate::call::{Ask, Call};
+use crate::guarded::Guard;
+use crate::rules::limits::{LONG_WORD_BYTES, WORD_BYTES};
 use crate::rules::refusal::*;
 
 const DIFFERENCES_SHOWN: usize = 20;
@@ -8,25 +12,57 @@ const DIFFERENCES_SHOWN: usize = 20;
 const OF_CHECK: [Number; 13] = [0, 1, 2, 3, 4, 5, 6, 10, 11, 12, 13, 14, 15];
 const OF_QUESTION: [Number; 13] = [0, 1, 2, 3, 4, 5, 6, 7, 8, 9, 16, 17, 18];
 
+const INPUTS: usize = 8;
+const INPUT_NAMES: [&str; INPUTS] = [
+    "no bytes of sheet",
+    "6,414,352 bytes of sheet, the most there can be, and accepted",
+    "a slice that is NULL",
+    "a slice of no whole words",
+    "counts of 0 bytes",
+    "counts of 15 bytes",
+    "counts of 16 bytes",
+    "counts of 17 bytes",
+];
+
+/// Whether everything has to be met, or a part is compared again.
+#[derive(Clone, Copy, PartialEq)]
+pub enum Scope {
+    Whole,
+    Again,
+}
+
 #[derive(Default)]
 pub struct Table {
     pub small: u64,
     pub full: u64,
-    /// Sheets as large as there are, accepted.
-    pub largest: u64,
     pub at_once: u64,
     checks: [u64; LAST as usize + 1],
     questions: [u64; LAST as usize + 1],
+    inputs: [u64; INPUTS],
     differences: Vec<String>,
 }
 
-impl Table {
-    pub fn met_check(&mut self, number: Number) {
-        self.checks[number as usize] += 1;
-    }
+/// Which of the inputs to be met a call is.
+fn inputs(call: &Call, sheet: &[u8], due: Number) -> [bool; INPUTS] {
+    let lengths = call.lengths();
+    let (counts, word) = match call.ask {
+        Ask::Check(_) => (None, WORD_BYTES),
+        Ask::Question(_, _, lengths) => (Some(lengths[2]), LONG_WORD_BYTES),
+    };
+    let largest = sheet.len() == 6_414_352 && counts.is_none() && due == ACCEPTED;
+    let null = lengths.iter().zip(call.guards).any(|(&length, guard)| length == 0 && guard == Guard::After);
+    let odd = lengths.iter().any(|length| !length.is_multiple_of(word));
+    let [none, short, exact, more] = [0, 15, 16, 17].map(|bytes| counts == Some(bytes));
+    [sheet.is_empty(), largest, null, odd, none, short, exact, more]
+}
 
-    pub fn met_question(&mut self, number: Number) {
-        self.questions[number as usize] += 1;
+impl Table {
+    pub fn met(&mut self, call: &Call, sheet: &[u8], due: Number) {
+        let numbers = if matches!(call.ask, Ask::Check(_)) { &mut self.checks } else { &mut self.questions };
+        numbers[due as usize] += 1;
+        for (count, is) in self.inputs.iter_mut().zip(inputs(call, sheet, due)) {
+            *count += u64::from(is);
+        }
     }
 
     pub fn differ(&mut self, text: String) {
@@ -36,58 +72,48 @@ impl Table {
     pub fn add(&mut self, other: Table) {
         self.small += other.small;
         self.full += other.full;
-        self.largest += other.largest;
         self.at_once += other.at_once;
-        for number in 0..=LAST as usize {
-            self.checks[number] += other.checks[number];
-            self.questions[number] += other.questions[number];
-        }
+        let add = |to: &mut [u64], from: &[u64]| to.iter_mut().zip(from).for_each(|(to, from)| *to += from);
+        add(&mut self.checks, &other.checks);
+        add(&mut self.questions, &other.questions);
+        add(&mut self.inputs, &other.inputs);
         self.differences.extend(other.differences);
     }
 
-    pub fn same(&self) -> bool {
-        self.differences.is_empty()
+    /// All that a whole comparison has to meet, and how often it was met.
+    fn lines(&self) -> Vec<(String, u64)> {
+        let mut lines = Vec::new();
+        for (name, good, numbers, met) in
+            [("check", "accepted", OF_CHECK, self.checks), ("question", "listed", OF_QUESTION, self.questions)]
+        {
+            lines.push((format!("{name}: {good}"), met[ACCEPTED as usize]));
+            lines.extend(numbers[1..].iter().map(|&n| (format!("{name}: refused {n}"), met[n as usize])));
+        }
+        lines.extend(INPUT_NAMES.iter().zip(self.inputs).map(|(name, met)| (format!("calls with {name}"), met)));
+        lines.push((String::from("calls by threads at once"), self.at_once));
+        lines
     }
 
-    /// What a whole comparison has to meet and did not.
-    pub fn missed(&self) -> Vec<String> {
-        let mut missed = Vec::new();
-        for (name, numbers, met) in [("check", OF_CHECK, self.checks), ("question", OF_QUESTION, self.questions)] {
-            let never = numbers.into_iter().filter(|&n| met[n as usize] == 0);
-            missed.extend(never.map(|n| format!("the {name} was never due to give {n}")));
-        }
-        if self.largest == 0 {
-            missed.push(String::from("no accepted sheet was the largest there is"));
-        }
-        if self.at_once == 0 {
-            missed.push(String::from("no calls were made at once"));
-        }
-        missed
+    fn not_met(&self) -> usize {
+        self.lines().iter().filter(|(_, met)| *met == 0).count()
     }
 
-    pub fn text(&self) -> String {
-        let mut text = String::new();
-        for (name, numbers, met) in [("check", OF_CHECK, self.checks), ("question", OF_QUESTION, self.questions)] {
-            text += &format!("{name}: {}: {}\n", if name == "check" { "accepted" } else { "listed" }, met[0]);
-            for number in &numbers[1..] {
-                text += &format!("{name}: refused {number}: {}\n", met[*number as usize]);
-            }
-        }
+    pub fn is_good(&self, scope: Scope) -> bool {
+        self.differences.is_empty() && (scope == Scope::Again || self.not_met() == 0)
+    }
+
+    pub fn text(&self, scope: Scope) -> String {
+        let lines = self.lines().into_iter().filter(|(_, met)| scope == Scope::Whole || *met > 0);
+        let mut text: String = lines.map(|(name, met)| format!("{name}: {met}\n")).collect();
         for difference in self.differences.iter().take(DIFFERENCES_SHOWN) {
             text += &format!("DIFFERS {difference}\n");
         }
-        text
-    }
-
-    pub fn totals(&self) -> String {
-        format!(
-            "{} sheets of program size, {} of full size; {} checks, {} questions, {} calls by threads at once; {} differ",
-            self.small,
-            self.full,
-            self.checks.iter().sum::<u64>(),
-            self.questions.iter().sum::<u64>(),
-            self.at_once,
-            self.differences.len()
-        )
+        let (checks, questions) = (self.checks.iter().sum::<u64>(), self.questions.iter().sum::<u64>());
+        text += &format!("{} sheets of program size, {} of full size; ", self.small, self.full);
+        text += &format!("{checks} checks, {questions} questions; {} differ", self.differences.len());
+        if scope == Scope::Whole {
+            text += &format!(", {} of the above were not met", self.not_met());
+        }
+        text + "\n"
     }
 }
