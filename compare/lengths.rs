@@ -34,7 +34,7 @@ impl Sizes {
     }
 }
 
-pub fn call(rng: &mut Rng, ask: Ask) -> Call {
+fn call(rng: &mut Rng, ask: Ask) -> Call {
     let guards = [(); 3].map(|()| rng.pick(&[Guard::Before, Guard::After]));
     Call { ask, salt: rng.next(), guards }
 }
@@ -51,13 +51,15 @@ pub fn check_short(rng: &mut Rng, sizes: &Sizes) -> Call {
     call(rng, Ask::Check(length))
 }
 
-/// A question of which at most one slice is too short, mostly none.
+/// A question of which mostly no slice is too short, or one of them, or all.
 pub fn question(rng: &mut Rng, sizes: &Sizes, (q, k): (u32, u32)) -> Call {
     let exact = [sizes.answer(k), sizes.working(), COUNTS_BYTES];
     let mut lengths = exact.map(|length| enough(rng, length));
-    let changed = rng.below(8);
-    if changed < 3 {
-        lengths[changed] = short(rng, exact[changed]);
+    let changed = rng.below(9);
+    for slice in 0..exact.len() {
+        if changed == slice || changed == exact.len() {
+            lengths[slice] = short(rng, exact[slice]);
+        }
     }
     call(rng, Ask::Question(q, k, lengths))
 }

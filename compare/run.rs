@@ -20,7 +20,7 @@ const FULL_QUESTIONS: usize = 5;
 /// The stack of a C program's first thread.
 pub const STACK: usize = 8 << 20;
 
-struct Bench<'a> {
+struct Worker<'a> {
     edges: &'a [Edge],
     slices: Slices,
     table: Table,
@@ -30,26 +30,26 @@ struct Bench<'a> {
 pub fn all(work: &[Which]) -> Table {
     let edges = edges::all();
     let next = AtomicUsize::new(0);
-    let worker = || {
-        let mut bench = Bench { edges: &edges, slices: Slices::new(), table: Table::default() };
+    let run = || {
+        let mut worker = Worker { edges: &edges, slices: Slices::new(), table: Table::default() };
         while let Some(which) = work.get(next.fetch_add(1, Ordering::Relaxed)) {
-            bench.one(*which);
+            worker.one(*which);
         }
-        bench.table
+        worker.table
     };
     let mut table = Table::default();
     thread::scope(|scope| {
         let count = thread::available_parallelism().map_or(1, usize::from);
-        let start = |_| thread::Builder::new().stack_size(STACK).spawn_scoped(scope, worker).expect("a thread");
-        let workers: Vec<_> = (0..count).map(start).collect();
-        for worker in workers {
-            table.add(worker.join().expect("a thread that ends"));
+        let start = |_| thread::Builder::new().stack_size(STACK).spawn_scoped(scope, run).expect("a thread");
+        let threads: Vec<_> = (0..count).map(start).collect();
+        for thread in threads {
+            table.add(thread.join().expect("a thread that ends"));
         }
     });
     table
 }
 
-impl Bench<'_> {
+impl Worker<'_> {
     fn one(&mut self, which: Which) {
         // Apart from the streams of the makers.
         let mut rng = Rng::new(!which.seed, which.index);
@@ -95,8 +95,8 @@ impl Bench<'_> {
     fn calls(&mut self, rng: &mut Rng, which: Which, bytes: &[u8], calls: &[Call]) {
         let sheet = Guarded::holding(bytes, rng.pick(&[Guard::Before, Guard::After]));
         for call in calls {
-            calling(which, call.ask);
             let due = call.due(bytes);
+            calling(which, call.ask);
             let found = call.found(&sheet, bytes, &mut self.slices);
             self.table.met(call, bytes, due.number);
             if let Some(difference) = call.difference(&found, &due) {

@@ -12,6 +12,9 @@ const DIFFERENCES_SHOWN: usize = 20;
 const OF_CHECK: [Number; 13] = [0, 1, 2, 3, 4, 5, 6, 10, 11, 12, 13, 14, 15];
 const OF_QUESTION: [Number; 13] = [0, 1, 2, 3, 4, 5, 6, 7, 8, 9, 16, 17, 18];
 
+/// The bytes of 1,024 places, 8,192 stages, 262,144 blocks and 4,096 offices with their counts.
+const LARGEST_SHEET: usize = 6_414_352;
+
 const INPUTS: usize = 8;
 const INPUT_NAMES: [&str; INPUTS] = [
     "no bytes of sheet",
@@ -49,7 +52,7 @@ fn inputs(call: &Call, sheet: &[u8], due: Number) -> [bool; INPUTS] {
         Ask::Check(_) => (None, WORD_BYTES),
         Ask::Question(_, _, lengths) => (Some(lengths[2]), LONG_WORD_BYTES),
     };
-    let largest = sheet.len() == 6_414_352 && counts.is_none() && due == ACCEPTED;
+    let largest = sheet.len() == LARGEST_SHEET && counts.is_none() && due == ACCEPTED;
     let null = lengths.iter().zip(call.guards).any(|(&length, guard)| length == 0 && guard == Guard::After);
     let odd = lengths.iter().any(|length| !length.is_multiple_of(word));
     let [none, short, exact, more] = [0, 15, 16, 17].map(|bytes| counts == Some(bytes));
