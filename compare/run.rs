@@ -18,7 +18,7 @@ const SMALL_QUESTIONS: usize = 6;
 const FULL_QUESTIONS: usize = 5;
 
 /// The stack of a C program's first thread.
-pub const STACK: usize = 8 << 20;
+const STACK: usize = 8 << 20;
 
 struct Worker<'a> {
     edges: &'a [Edge],
@@ -30,17 +30,22 @@ struct Worker<'a> {
 pub fn all(work: &[Which]) -> Table {
     let edges = edges::all();
     let next = AtomicUsize::new(0);
-    let run = || {
+    let run = |_| {
         let mut worker = Worker { edges: &edges, slices: Slices::new(), table: Table::default() };
         while let Some(which) = work.get(next.fetch_add(1, Ordering::Relaxed)) {
             worker.one(*which);
         }
         worker.table
     };
-    let mut table = Table::default();
+    by_threads(thread::available_parallelism().map_or(1, usize::from), run)
+}
+
+/// What so many threads count together, each of which is given its number.
+pub fn by_threads(count: usize, run: impl Fn(usize) -> Table + Sync) -> Table {
+    let (run, mut table) = (&run, Table::default());
     thread::scope(|scope| {
-        let count = thread::available_parallelism().map_or(1, usize::from);
-        let start = |_| thread::Builder::new().stack_size(STACK).spawn_scoped(scope, run).expect("a thread");
+        let thread = || thread::Builder::new().stack_size(STACK);
+        let start = |number| thread().spawn_scoped(scope, move || run(number)).expect("a thread");
         let threads: Vec<_> = (0..count).map(start).collect();
         for thread in threads {
             table.add(thread.join().expect("a thread that ends"));

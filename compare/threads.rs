@@ -9,11 +9,10 @@ use crate::inputs::full::{self, KINDS};
 use crate::inputs::rng::Rng;
 use crate::lengths::{check_short, checked, place_and_number, question, Sizes};
 use crate::rules::sheet::Sheet;
-use crate::run::STACK;
+use crate::run::by_threads;
 use crate::table::Table;
 use crate::which::Which;
 use std::sync::Barrier;
-use std::thread;
 
 const THREADS: usize = 6;
 const SMALL_SHEETS: usize = 100;
@@ -39,19 +38,7 @@ pub fn at_once(which: Which) -> Table {
         }
     }
     let start = Barrier::new(THREADS);
-    let mut table = Table::default();
-    thread::scope(|scope| {
-        let spawn = |number: usize| {
-            let (tasks, start) = (&tasks, &start);
-            let run = move || one_thread(which, tasks, number, start);
-            thread::Builder::new().stack_size(STACK).spawn_scoped(scope, run).expect("a thread")
-        };
-        let threads: Vec<_> = (0..THREADS).map(spawn).collect();
-        for thread in threads {
-            table.add(thread.join().expect("a thread that ends"));
-        }
-    });
-    table
+    by_threads(THREADS, |number| one_thread(which, &tasks, number, &start))
 }
 
 /// First all threads in one order, so that they are on the same sheet; then each from a place of its own.
