@@ -1,22 +1,7 @@
-//! The library's two C functions, as include/atlas.h declares them, over guarded slices.
+//! The library's two C functions over guarded slices.
 
+use crate::atlas::{atlas_check, atlas_question};
 use crate::guarded::Guarded;
-
-extern "C" {
-    fn atlas_check(sheet: *const u8, sheet_bytes: usize, distances: *mut u8, distances_bytes: usize) -> u32;
-    fn atlas_question(
-        sheet: *const u8,
-        sheet_bytes: usize,
-        q: u32,
-        k: u32,
-        answer: *mut u8,
-        answer_bytes: usize,
-        working: *mut u8,
-        working_bytes: usize,
-        counts: *mut u8,
-        counts_bytes: usize,
-    ) -> u32;
-}
 
 pub fn check(sheet: &Guarded, distances: &mut Guarded) -> u32 {
     // SAFETY: each pointer goes with the length of its slice, and no two slices overlap.

@@ -35,7 +35,7 @@ pub fn question(
 }
 
 /// The whole words of the bytes; what is left over makes none.
-fn long_words_of(bytes: &[u8]) -> Vec<u64> {
+pub fn long_words_of(bytes: &[u8]) -> Vec<u64> {
     let words = bytes.chunks_exact(LONG_WORD_BYTES);
     words.map(|b| u64::from_le_bytes(b.try_into().expect("eight bytes"))).collect()
 }
