@@ -1,0 +1,129 @@
+/* The header as a program uses it that is both C89 and C++: its numbers, its sizes, its words, and each function called. The marked
+   sheet comes on standard input; every number expected of it is the paper's. */
+
+#include <atlas.h>
+#include <atlas.h>
+
+#include <stdio.h>
+
+static int failed = 0;
+
+static void expect(int holds, const char *what)
+{
+    if (!holds) {
+        printf("header: FAILED: %s\n", what);
+        failed = 1;
+    }
+}
+
+static void numbers(void)
+{
+    static const unsigned int named[] = {
+        ATLAS_ACCEPTED,      ATLAS_CUT_SHORT,     ATLAS_BAD_COUNT,    ATLAS_BAD_PLACES,      ATLAS_BAD_STAGES,
+        ATLAS_BAD_BLOCKS,    ATLAS_BAD_OFFICES,   ATLAS_BAD_Q,        ATLAS_BAD_K,           ATLAS_SHORT_SLICES,
+        ATLAS_SHORT_DISTANCES, ATLAS_UNREACHED,   ATLAS_IN_NO_BLOCK,  ATLAS_WRONG_COLOUR,    ATLAS_UNTRUE_RATIO,
+        ATLAS_IDLE_BLOCK,    ATLAS_WALK_TOO_LONG, ATLAS_WALK_NO_BLOCK, ATLAS_WALK_EMPTY,     ATLAS_WALK_TOO_FAR};
+    unsigned int number;
+    for (number = 0; number < 20; number++)
+        expect(named[number] == number, "each number stands under its name");
+    expect(ATLAS_LISTED == 0, "0 is also a list");
+}
+
+static void sizes(void)
+{
+    unsigned int places = 4;
+    expect(ATLAS_DISTANCES_BYTES(places++) == 64 && places == 5, "4 places lend 64 bytes, and are counted once");
+    expect(ATLAS_ANSWER_BYTES(1 + 1) == 64, "2 offices lend 64 bytes");
+    expect(ATLAS_WORKING_BYTES(1 + 2) == 144, "3 offices lend 144 bytes");
+    expect(sizeof(ATLAS_ANSWER_BYTES(1)) == sizeof(size_t), "bytes are a size");
+    expect(ATLAS_DISTANCES_BYTES(ATLAS_PLACES_MOST) == ATLAS_DISTANCES_MOST, "distances of the largest sheet");
+    expect(ATLAS_ANSWER_BYTES(ATLAS_OFFICES_MOST) == ATLAS_ANSWER_MOST, "answer of the largest sheet");
+    expect(ATLAS_WORKING_BYTES(ATLAS_OFFICES_MOST) == ATLAS_WORKING_MOST, "working of the largest sheet");
+    expect(4 * (4 + 2 * ATLAS_PLACES_MOST + 3 * ATLAS_STAGES_MOST + 6 * ATLAS_BLOCKS_MOST + ATLAS_OFFICES_MOST) == ATLAS_SHEET_MOST,
+           "the largest sheet: four counts and all records");
+}
+
+static void words(void)
+{
+    static const unsigned char bytes[] = {1, 2, 3, 4, 255, 255, 255, 255, 0, 0, 0, 0, 0, 1, 0, 0};
+    expect(atlas_word32(bytes, 0) == 67305985U, "a word, low byte first");
+    expect(atlas_word32(bytes, 1) == 4294967295U, "the largest word");
+    expect(atlas_word64(bytes, 1) == 1099511627776.0, "2^40");
+    expect(atlas_word32(bytes, 2) == 0 && atlas_word32(bytes, 3) == 256, "the halves of 2^40");
+}
+
+static int is_filled(const unsigned char *bytes, size_t from, size_t to, unsigned int byte)
+{
+    while (from < to && bytes[from] == byte)
+        from++;
+    return from == to;
+}
+
+static void fill(unsigned char *bytes, size_t count)
+{
+    size_t i;
+    for (i = 0; i < count; i++)
+        bytes[i] = 170;
+}
+
+static void check(const unsigned char *sheet, size_t bytes)
+{
+    static unsigned char distances[ATLAS_DISTANCES_MOST];
+    fill(distances, sizeof distances);
+    expect(atlas_check(NULL, 0, NULL, 0) == ATLAS_CUT_SHORT, "no sheet");
+    expect(atlas_check(sheet, bytes, NULL, 0) == ATLAS_SHORT_DISTANCES, "no distances");
+    expect(atlas_check(sheet, bytes, distances, ATLAS_DISTANCES_BYTES(4) - 1) == ATLAS_SHORT_DISTANCES, "a byte too few");
+    expect(is_filled(distances, 0, sizeof distances, 170), "10: distances are untouched");
+    expect(atlas_check(sheet, bytes, distances, sizeof distances) == ATLAS_ACCEPTED, "the marked sheet is accepted");
+    expect(atlas_word32(distances, 2 * 4 + 3) == 20 && atlas_word32(distances, 2) == 11, "P5 and P6");
+    expect(is_filled(distances, ATLAS_DISTANCES_BYTES(4), sizeof distances, 170), "later bytes are untouched");
+}
+
+/* Asks from place 2, in slices that are longer than the marked sheet needs. */
+static unsigned char answer[200], working[200], counts[ATLAS_COUNTS_BYTES + 1];
+
+static unsigned int ask(const unsigned char *sheet, size_t bytes, unsigned int k)
+{
+    fill(answer, sizeof answer);
+    fill(working, sizeof working);
+    fill(counts, sizeof counts);
+    return atlas_question(sheet, bytes, 2, k, answer, sizeof answer, working, sizeof working, counts, sizeof counts);
+}
+
+static double in_line(size_t rank, size_t which)
+{
+    return atlas_word64(answer, rank * ATLAS_LINE_WORDS + which);
+}
+
+static void question(const unsigned char *sheet, size_t bytes)
+{
+    expect(atlas_question(sheet, bytes, 2, 2, NULL, 0, NULL, 0, NULL, 0) == ATLAS_SHORT_SLICES, "nothing lent");
+    expect(ask(sheet, bytes, 4) == ATLAS_BAD_K, "4 of 3 offices");
+    expect(is_filled(answer, 0, sizeof answer, 170) && is_filled(working, 0, sizeof working, 170), "8: both are untouched");
+    expect(is_filled(counts, 0, ATLAS_COUNTS_BYTES, 0), "8: the counts are 0");
+    expect(ask(sheet, bytes, 2) == ATLAS_LISTED, "P10 is listed");
+    expect(atlas_word64(counts, ATLAS_COUNT_LISTED) == 2 && atlas_word64(counts, ATLAS_COUNT_REFINEMENTS) == 5, "P10: the counts");
+    expect(in_line(0, ATLAS_LINE_OFFICE) == 2 && in_line(0, ATLAS_LINE_LOW_END) == 5 && in_line(0, ATLAS_LINE_HIGH_END) == 5 &&
+               in_line(0, ATLAS_LINE_STAGES_WALKED) == 1,
+           "P10: office 2");
+    expect(in_line(1, ATLAS_LINE_OFFICE) == 0 && in_line(1, ATLAS_LINE_LOW_END) == 11 && in_line(1, ATLAS_LINE_HIGH_END) == 11 &&
+               in_line(1, ATLAS_LINE_STAGES_WALKED) == 2,
+           "P10: office 0");
+    expect(is_filled(working, 0, ATLAS_WORKING_BYTES(3), 0), "P10: the working bytes are 0");
+    expect(is_filled(answer, ATLAS_ANSWER_BYTES(2), sizeof answer, 170) && is_filled(counts, ATLAS_COUNTS_BYTES, sizeof counts, 170) &&
+               is_filled(working, ATLAS_WORKING_BYTES(3), sizeof working, 170),
+           "P10: later bytes are untouched");
+}
+
+int main(void)
+{
+    unsigned char sheet[301];
+    size_t bytes = fread(sheet, 1, sizeof sheet, stdin);
+    expect(bytes == 300, "the marked sheet is 300 bytes");
+    numbers();
+    sizes();
+    words();
+    check(sheet, bytes);
+    question(sheet, bytes);
+    return failed;
+}
