@@ -18,9 +18,10 @@
 
 static const char usage[] =
     "usage: catalogue [-c] SHEET [Q K]...\n"
-    "Lists the K offices nearest by road from place Q of a sheet, for each question Q K. SHEET is a file of bytes; /dev/stdin will do.\n"
+    "Lists the K offices nearest by road from place Q of a sheet, for each question Q K. SHEET is a file of bytes.\n"
     "With no question there, they are read from standard input, one to a line: two numbers, with spaces or tabs between. Blank lines\n"
-    "are skipped. What is no question is told on standard error, and the rest is still answered.\n"
+    "are skipped. What is no question is told on standard error, and the rest is still answered. Where the questions are arguments,\n"
+    "the sheet may come on standard input, as /dev/stdin.\n"
     "With -c the answers are columns, with tabs between:\n"
     "    listed   Q K OFFICES REFINEMENTS                  and then a line for each of the OFFICES listed:\n"
     "    office   Q K RANK OFFICE PLACE LOW HIGH STAGES    the road is LOW to HIGH furlongs long; STAGES were walked\n"

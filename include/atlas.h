@@ -23,8 +23,8 @@
    LENDING. A slice is a pointer and its length in bytes. No slice that is written may overlap another slice of the same call. A pointer
    may be NULL where its length is 0. A slice may be longer than is needed and need not be aligned. Nothing is kept after the return.
 
-   THREADS. Any number of threads may call at once, also with one sheet: there is no state, and the sheet is only read. Memory is not
-   allocated, but on the stack: see ATLAS_STACK_BYTES. */
+   THREADS. Any number of threads may call at once: there is no state. One sheet may serve them all, since it is only read; the other
+   slices each call has for itself. Memory is taken from the stack alone: see ATLAS_STACK_BYTES. */
 
 #ifndef ATLAS_H
 #define ATLAS_H
