@@ -1,53 +1,47 @@
--- A number written byte by byte, and words written one after the other or in the place of others.
-use Prim.Native.Nat.{ℕ, suc, _+_, _-_, _*_, _/_, _%_, _≤_, _<_}
+-- A word written byte by byte, and words written one after the other or in the place of others.
+use Prim.Native.Nat.{ℕ, suc, _+_, _*_, _/_, _%_, _^_, _≤_, _<_}
 use native.Mathlib.Nat.{mul-suc}
 use native.Mathlib.Omega.{arith}
 use mathlib.Core.Path.{_≡_, refl, sym, ap, subst, _∙_}
-use mathlib.Core.List.{List, [], _∷_, _++_, append-assoc, append-nil}
+use mathlib.Core.List.{List, [], _∷_, _++_, append-assoc}
 use lib.ListN.{length, getD, take, drop, set, length-append, length-set, take-append-drop}
 use lib.Seq.{take-at, drop-at, drop-drop, set-split, split-at, length-take-le}
-use Rattle.paper.specs.Sizes.{longBytes, countsBytes}
+use Rattle.paper.specs.Sizes.{wordBytes, longBytes, countsBytes}
 use Rattle.paper.specs.Words.{bytesOf, asBytes, written}
 use Rattle.paper.specs.Host.{counted}
-use Rattle.paper.proofs.Words.{bytes-size, as-bytes-size, as-bytes-append, written-none}
+use Rattle.paper.proofs.Words.{bytes-size, as-bytes-size, as-bytes-append, written-none, bytes-halves}
 use Rattle.paper.proofs.Host.{counted-long}
 use Rattle.text.specs.Put.{Put}
-use Rattle.text.proofs.Put.{put-none, put-byte, put-then, put-length}
+use Rattle.text.proofs.Put.{put-byte, put-then, put-length}
 
--- the first i bytes of x are written, and those of `rest` are left
-pub record Writing (at width x i rest : ℕ) (before after : List ℕ) : Type 0 where
-  pub done : List ℕ
-  pub long : length done ≡ i
-  pub all : bytesOf width x ≡ done ++ bytesOf (width - i) rest
-  pub put : Put at done before after
-
-pub writing-none : (at width x : ℕ) (b : List ℕ) → at ≤ length b → Writing at width x 0 x b b
-writing-none at width x b h =
-    let e : width ≡ width - 0 = omega arith in
-    record { done = []; long = refl; all = ap (λ (n : ℕ). bytesOf n x) e; put = put-none at b h }
-
-pub writing-more : {at width x i rest : ℕ} {before after : List ℕ} → Writing at width x i rest before after → i < width → at + width ≤ length before
-    → Writing at width x (i + 1) (rest / 256) before (set after (at + i) (rest % 256))
-unfolding bytesOf
-writing-more {at} {width} {x} {i} {rest} {before} {after} W h room = record {
-  done = W .done ++ (rest % 256 ∷ []);
-  long = omega (arith, length-append (W .done) (rest % 256 ∷ []), W .long);
-  all = W .all ∙ ap (λ (n : ℕ). W .done ++ bytesOf n rest) more ∙ sym (append-assoc (W .done) (rest % 256 ∷ []) (bytesOf (width - (i + 1)) (rest / 256)));
-  put = put-then (W .put) (rw (W .long) (put-byte (at + i) (rest % 256) after (omega (arith, put-length (W .put)))));
-}
+-- four bytes, one after the other
+pub put-four : (at a b c d : ℕ) (u : List ℕ) → at + wordBytes ≤ length u → Put at (a ∷ b ∷ c ∷ d ∷ []) u (set (set (set (set u at a) (at + 1) b) (at + 2) c) (at + 3) d)
+put-four at a b c d u h = put-then (put-then (put-then first second) third) fourth
   where
-    more : width - i ≡ suc (width - (i + 1))
-    more = omega arith
+    first : Put at (a ∷ []) u (set u at a)
+    first = put-byte at a u (omega arith)
 
-pub writing-all : {at width x i rest : ℕ} {before after : List ℕ} → Writing at width x i rest before after → i ≡ width → Put at (bytesOf width x) before after
+    second : Put (at + 1) (b ∷ []) (set u at a) (set (set u at a) (at + 1) b)
+    second = put-byte (at + 1) b (set u at a) (omega (arith, put-length first))
+
+    third : Put (at + 2) (c ∷ []) (set (set u at a) (at + 1) b) (set (set (set u at a) (at + 1) b) (at + 2) c)
+    third = put-byte (at + 2) c (set (set u at a) (at + 1) b) (omega (arith, put-length first, put-length second))
+
+    fourth : Put (at + 3) (d ∷ []) (set (set (set u at a) (at + 1) b) (at + 2) c) (set (set (set (set u at a) (at + 1) b) (at + 2) c) (at + 3) d)
+    fourth = put-byte (at + 3) d (set (set (set u at a) (at + 1) b) (at + 2) c) (omega (arith, put-length first, put-length second, put-length third))
+
+pub put-word : (at x : ℕ) (u : List ℕ) → at + wordBytes ≤ length u
+    → Put at (bytesOf wordBytes x) u (set (set (set (set u at (x % 256)) (at + 1) (x / 256 % 256)) (at + 2) (x / 256 / 256 % 256)) (at + 3) (x / 256 / 256 / 256 % 256))
 unfolding bytesOf
-writing-all {at} {width} {x} {i} {rest} {before} {after} W e = subst (λ (l : List ℕ). Put at l before after) (sym all) (W .put)
-  where
-    none : width - i ≡ 0
-    none = omega arith
+put-word at x u h = put-four at (x % 256) (x / 256 % 256) (x / 256 / 256 % 256) (x / 256 / 256 / 256 % 256) u h
 
-    all : bytesOf width x ≡ W .done
-    all = W .all ∙ ap (λ (n : ℕ). W .done ++ bytesOf n rest) none ∙ append-nil (W .done)
+-- a word of 64 bits by its halves
+pub put-long : (at x y z : ℕ) (u v w : List ℕ) → y ≡ x % 256 ^ wordBytes → z ≡ x / 256 ^ wordBytes → Put at (bytesOf wordBytes y) u v → Put (at + wordBytes) (bytesOf wordBytes z) v w
+    → Put at (bytesOf longBytes x) u w
+put-long at x y z u v w e f P Q =
+    subst (λ (l : List ℕ). Put at l u w) (sym (bytes-halves x))
+    (put-then (subst (λ (n : ℕ). Put at (bytesOf wordBytes n) u v) e P)
+    (subst (λ (n : ℕ). Put (at + n) (bytesOf wordBytes (x / 256 ^ wordBytes)) v w) (sym (bytes-size wordBytes (x % 256 ^ wordBytes))) (subst (λ (n : ℕ). Put (at + wordBytes) (bytesOf wordBytes n) v w) f Q)))
 
 -- a text in the place of another that is as long
 put-seam : (a b c text v : List ℕ) (at : ℕ) → length a ≡ at → length b ≡ length text → Put at text (a ++ (b ++ c)) v → v ≡ a ++ (text ++ c)

@@ -1,7 +1,7 @@
 // The question's list and counts in the host's bytes. The walk has words of its own, as many as the largest sheet needs.
 use crate::bytes::clear;
+use crate::bytes::put_long;
 use crate::bytes::put_longs;
-use crate::bytes::put_number;
 use nearest::invalid as invalid_in_words;
 use nearest::walk::Walked;
 use nearest::walk_mapped;
@@ -29,15 +29,15 @@ const LINES: usize = LINE_WORDS * MOST_OFFICES;
 const SLOTS: usize = SLOT_WORDS * MOST_OFFICES;
 
 // How many are listed, and how many refinements were made. A slice without room for both is not touched.
-pub fn put_counts(counts: &mut [u8], listed: u64, refinements: u64)
-    ensures { λ _. ⌜ now (counts .exit) ≡ counted listed refinements (now (counts .entry)) ⌝ }
+pub fn put_counts(bytes: &mut [u8], listed: u64, refinements: u64)
+    ensures { λ _. ⌜ now (bytes .exit) ≡ counted listed refinements (now (bytes .entry)) ⌝ }
     ensures { λ _. ⌜ (listed < 256 ^ longBytes) × (refinements < 256 ^ longBytes) ⌝ }
 {
-    if counts.len() < COUNTS_BYTES {
+    if bytes.len() < COUNTS_BYTES {
         return;
     }
-    put_number(counts, 0, LONG_BYTES, listed);
-    put_number(counts, LONG_BYTES, LONG_BYTES, refinements);
+    put_long(bytes, 0, listed);
+    put_long(bytes, LONG_BYTES, refinements);
 }
 
 // 0, or the first of 7, 8 and 9 that is due, for slices of so many bytes.
@@ -45,15 +45,15 @@ fn invalid(found: Counts, q: u32, k: u32, answer: &[u8], working: &[u8], counts:
     requires { ⌜ found .offices ≤ mostOffices ⌝ }
     ensures { λ r. ⌜ ((m : Map) (o : Offices) → m .places ≡ found .places → o .count ≡ found .offices → r ≡ hostInvalid m o q k (now (answer .entry)) (now (working .entry)) (now (counts .entry))) ⌝ }
 {
-    let number = invalid_in_words(
+    let due = invalid_in_words(
         found,
         q,
         k,
         answer.len() / LONG_BYTES,
         working.len() / LONG_BYTES,
     );
-    if number != 0 {
-        return number;
+    if due != 0 {
+        return due;
     }
     if counts.len() < COUNTS_BYTES {
         return 9;

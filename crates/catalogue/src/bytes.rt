@@ -11,22 +11,30 @@ ghost use Rattle.paper.specs.Words.{bytesOf, written, Fit};
 ghost use Rattle.text.specs.Put.{Put};
 ghost use Rattle.catalogue.specs.Handed.{StoredIn};
 
-fn wide(x: u32) -> u64
-    ensures { λ r. ⌜ r ≡ x ⌝ }
+// The numbers of 32 bits.
+const HALF: u64 = 4_294_967_296;
+
+// The four bytes of x, from byte `at` on.
+pub fn put_word(bytes: &mut [u8], at: usize, x: u32)
+    requires { ⌜ at + wordBytes ≤ length (now bytes) ⌝ }
+    ensures { λ _. ⌜ Put at (bytesOf wordBytes x) (now (bytes .entry)) (now (bytes .exit)) ⌝ }
 {
-    x as u64
+    let second = x / 256;
+    let third = second / 256;
+    let fourth = third / 256;
+    bytes[at] = (x % 256) as u8;
+    bytes[at + 1] = (second % 256) as u8;
+    bytes[at + 2] = (third % 256) as u8;
+    bytes[at + 3] = (fourth % 256) as u8;
 }
 
-// The `width` low bytes of x, from byte `at` on.
-pub fn put_number(bytes: &mut [u8], at: usize, width: usize, x: u64)
-    requires { ⌜ at + width ≤ length (now bytes) ⌝ }
-    ensures { λ _. ⌜ Put at (bytesOf width x) (now (bytes .entry)) (now (bytes .exit)) ⌝ }
+// The eight bytes of x, from byte `at` on.
+pub fn put_long(bytes: &mut [u8], at: usize, x: u64)
+    requires { ⌜ at + longBytes ≤ length (now bytes) ⌝ }
+    ensures { λ _. ⌜ Put at (bytesOf longBytes x) (now (bytes .entry)) (now (bytes .exit)) ⌝ }
 {
-    let mut rest = x;
-    for i in 0..width {
-        bytes[at + i] = (rest % 256) as u8;
-        rest /= 256;
-    }
+    put_word(bytes, at, (x % HALF) as u32);
+    put_word(bytes, at + WORD_BYTES, (x / HALF) as u32);
 }
 
 // The first n words of 64 bits.
@@ -36,7 +44,7 @@ pub fn put_longs(bytes: &mut [u8], words: &[u64], n: usize)
     ensures { λ _. ⌜ Fit longBytes (now (words .entry)) ⌝ }
 {
     for i in 0..n {
-        put_number(bytes, LONG_BYTES * i, LONG_BYTES, words[i]);
+        put_long(bytes, LONG_BYTES * i, words[i]);
     }
 }
 
@@ -46,7 +54,7 @@ pub fn store_column(bytes: &mut [u8], n: usize, v: usize, column: &[u32])
     ensures { λ _. ⌜ ((words b : List ℕ) → n * n ≤ length words → wordBytes * length words ≤ length b → now (bytes .entry) ≡ written wordBytes words b → StoredIn n v (now (column .entry)) words b (now (bytes .exit))) ⌝ }
 {
     for u in 0..n {
-        put_number(bytes, WORD_BYTES * (u * n + v), WORD_BYTES, wide(column[u]));
+        put_word(bytes, WORD_BYTES * (u * n + v), column[u]);
     }
 }
 

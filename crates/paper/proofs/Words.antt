@@ -1,12 +1,13 @@
 -- Words in slices of bytes: how many bytes they take, that words and bytes make each other, and what a write leaves.
 use Prim.Native.Nat.{ℕ, zero, suc, _+_, _-_, _*_, _/_, _%_, _^_, _≤_, _<_}
-use native.Mathlib.Nat.{mul-suc, mul-zero, mul-add, pow-zero, pow-suc, div-lt-iff-lt-mul, zero-lt-suc}
+use native.Mathlib.Nat.{mul-suc, mul-zero, mul-add, mul-comm, div-div-eq-div-mul, pow-zero, pow-suc, div-lt-iff-lt-mul, zero-lt-suc}
 use native.Mathlib.Omega.{arith}
 use mathlib.Core.Path.{_≡_, refl, sym, ap, subst, _∙_}
 use mathlib.Core.List.{List, [], _∷_, _++_, append-assoc}
 use lib.ListN.{length, getD, take, drop, replicate, length-append, length-drop, take-append-drop, replicate-append-replicate}
+use lib.Arith.{mod-mul}
 use lib.Seq.{length-take-le, getD-drop, drop-drop, take-add, drop-at}
-use Rattle.paper.specs.Sizes.{wordBytes}
+use Rattle.paper.specs.Sizes.{wordBytes, longBytes}
 use Rattle.paper.specs.Layout.{Bytes}
 use Rattle.paper.specs.Sheet.{word}
 use Rattle.paper.specs.Slice.{cleared}
@@ -198,15 +199,39 @@ fit-append w [] ys F G i p = G i p
 fit-append w (x ∷ xs) ys F G zero p = F 0 (omega arith)
 fit-append w (x ∷ xs) ys F G (suc i) p = fit-append w xs ys (λ j q. F (suc j) (omega arith)) G i (omega arith)
 
+pow-some : (w : ℕ) → 0 < 256 ^ w
+pow-some zero = omega (arith, pow-zero 256)
+pow-some (suc w) = omega (arith, pow-suc 256 w, pow-some w)
+
 pub fit-zeros : (w n : ℕ) → Fit w (replicate n 0)
 fit-zeros w zero i p = absurd (omega arith)
 fit-zeros w (suc n) zero p = pow-some w
-  where
-    pow-some : (w : ℕ) → 0 < 256 ^ w
-    pow-some zero = omega (arith, pow-zero 256)
-    pow-some (suc w) = omega (arith, pow-suc 256 w, pow-some w)
 fit-zeros w (suc n) (suc i) p = fit-zeros w n i (omega arith)
 
 -- a whole slice: the words that were written are those that stand in it
 pub written-back : (w n : ℕ) (xs b : List ℕ) → length xs ≡ n → Fit w xs → wordsOf w n (written w xs b) ≡ xs
 written-back w n xs b e F = subst (λ (k : ℕ). wordsOf w k (written w xs b) ≡ xs) e (words-back w xs (drop (w * length xs) b) F)
+
+-- eight bytes are those of two halves
+bytes-low : (w x : ℕ) → bytesOf w (x % 256 ^ w) ≡ bytesOf w x
+unfolding bytesOf
+bytes-low zero x = refl
+bytes-low (suc w) x =
+    let whole : x % 256 ^ suc w ≡ (x / 256 % 256 ^ w) * 256 + x % 256 = ap (λ (n : ℕ). x % n) (pow-suc 256 w) ∙ mod-mul x (pow-some w) (zero-lt-suc 255) in
+    let first : x % 256 ^ suc w % 256 ≡ x % 256 = omega (arith, whole) in
+    let rest : x % 256 ^ suc w / 256 ≡ x / 256 % 256 ^ w = omega (arith, whole) in
+    rw (first, rest, bytes-low w (x / 256)) refl
+
+bytes-split : (w v x : ℕ) → bytesOf (w + v) x ≡ bytesOf w x ++ bytesOf v (x / 256 ^ w)
+unfolding bytesOf
+bytes-split zero v x =
+    let none : 0 + v ≡ v = omega arith in
+    let same : x ≡ x / 1 = omega arith in
+    ap (λ (n : ℕ). bytesOf n x) none ∙ ap (bytesOf v) same
+bytes-split (suc w) v x =
+    let more : suc w + v ≡ suc (w + v) = omega arith in
+    let further : x / 256 / 256 ^ w ≡ x / 256 ^ suc w = div-div-eq-div-mul x 256 (256 ^ w) ∙ ap (λ (n : ℕ). x / n) (mul-comm 256 (256 ^ w) ∙ sym (pow-suc 256 w)) in
+    ap (λ (n : ℕ). bytesOf n x) more ∙ ap (λ (l : List ℕ). x % 256 ∷ l) (bytes-split w v (x / 256) ∙ ap (λ (n : ℕ). bytesOf w (x / 256) ++ bytesOf v n) further)
+
+pub bytes-halves : (x : ℕ) → bytesOf longBytes x ≡ bytesOf wordBytes (x % 256 ^ wordBytes) ++ bytesOf wordBytes (x / 256 ^ wordBytes)
+bytes-halves x = bytes-split wordBytes wordBytes x ∙ ap (λ (l : List ℕ). l ++ bytesOf wordBytes (x / 256 ^ wordBytes)) (sym (bytes-low wordBytes x))

@@ -9,20 +9,20 @@ use Rattle.catalogue.proofs.answer.put_counts.Statement.{statement}
 use Rattle.catalogue.proofs.answer.put_counts.Tie as tie
 
 -- the first number, from the second
-abbrev first : tie.After-put-number2 → tie.After-put-number
+abbrev first : tie.After-put-long2 → tie.After-put-long
 first c = c .before .before .before .before
 
-abbrev begin : tie.After-put-number → tie.Start
+abbrev begin : tie.After-put-long → tie.Start
 begin c = c .before .before .before .before
 
 returns : tie.Need-returns
 returns c = (sym (counted-short _ _ _ (c .if1 .taken)), let f = c .before .before .fits in (omega (arith, f), omega (arith, f)))
 
-put-number-requires : tie.Need-put-number-requires
-put-number-requires c κs = search needs
+put-long-requires : tie.Need-put-long-requires
+put-long-requires c κs = search needs
 
-put-number-requires-2 : tie.Need-put-number-requires-2
-put-number-requires-2 c κs = let p = c .before .before .before in omega (arith, put-length (p .put-number .ensures), p .before .before .if1 .left)
+put-long-requires-2 : tie.Need-put-long-requires-2
+put-long-requires-2 c κs = let p = c .before .before .before in omega (arith, put-length (p .put-long .ensures), p .before .before .if1 .left)
 
 same-length : tie.Need-same-length
 same-length c = search needs
@@ -32,8 +32,8 @@ returns-2 c =
     let q = c .before .before in
     let p = first q in
     let f = begin p .fits in
-    (put-both _ _ _ _ _ (p .before .before .if1 .left) (p .put-number .ensures) (q .put-number2 .ensures), (omega (arith, f), omega (arith, f)))
+    (put-both _ _ _ _ _ (p .before .before .if1 .left) (p .put-long .ensures) (q .put-long2 .ensures), (omega (arith, f), omega (arith, f)))
 
 pub put-counts-spec : {M : Type 1} → statement M
 put-counts-spec =
-    tie.close (tie.spec returns put-number-requires put-number-requires-2 same-length returns-2)
+    tie.close (tie.spec returns put-long-requires put-long-requires-2 same-length returns-2)

@@ -24,7 +24,7 @@ abbrev μ-loop : tie.MeasureT-loop
 abbrev begin : tie.At-loop Inv-loop μ-loop → tie.Start Inv-loop μ-loop
 begin c = c .before .before .before
 
-abbrev around : tie.After-put-number Inv-loop μ-loop → tie.At-loop Inv-loop μ-loop
+abbrev around : tie.After-put-long Inv-loop μ-loop → tie.At-loop Inv-loop μ-loop
 around c = c .before .before .before .before
 
 -- as many words as were asked for are there
@@ -37,17 +37,17 @@ size c = ap length (c .loop .inv .1) ∙ written-size longBytes _ _ (omega (arit
 loop-holds : tie.Need-loop-holds Inv-loop μ-loop
 loop-holds c = (omega arith, sym (written-none longBytes _))
 
-mul-put-number : tie.Need-mul-put-number Inv-loop μ-loop
-mul-put-number c = search needs
+mul-put-long : tie.Need-mul-put-long Inv-loop μ-loop
+mul-put-long c = search needs
 
-mul-put-number-2 : tie.Need-mul-put-number-2 Inv-loop μ-loop
-mul-put-number-2 c = search needs
+mul-put-long-2 : tie.Need-mul-put-long-2 Inv-loop μ-loop
+mul-put-long-2 c = search needs
 
-shared-slice-read-put-number : tie.Need-shared-slice-read-put-number Inv-loop μ-loop
-shared-slice-read-put-number c = search needs
+shared-slice-read-put-long : tie.Need-shared-slice-read-put-long Inv-loop μ-loop
+shared-slice-read-put-long c = search needs
 
-put-number-requires : tie.Need-put-number-requires Inv-loop μ-loop
-put-number-requires c κs = let b = c .before .before .before in omega (arith, size b, c .before .before .loop-test .taken, begin b .pre .1)
+put-long-requires : tie.Need-put-long-requires Inv-loop μ-loop
+put-long-requires c κs = let b = c .before .before .before in omega (arith, size b, c .before .before .loop-test .taken, begin b .pre .1)
 
 add-i : tie.Need-add-i Inv-loop μ-loop
 add-i c = search needs
@@ -64,7 +64,7 @@ loop-again c =
     let i : ℕ = b .loop .i in
     let words : List ℕ = s .args .words .now in
     let more : take i words ++ (getD words i 0 ∷ []) ≡ take (i + 1) words = sym (ap (λ (j : ℕ). take j words) (add-one i) ∙ take-suc words i 0 (omega (arith, s .pre .0))) in
-    (omega arith, next-at longBytes _ i _ _ _ _ (taken b) (b .loop .inv .1) (p .put-number .ensures) ∙ ap (λ (l : List ℕ). written longBytes l (s .args .bytes .now)) more)
+    (omega arith, next-at longBytes _ i _ _ _ _ (taken b) (b .loop .inv .1) (p .put-long .ensures) ∙ ap (λ (l : List ℕ). written longBytes l (s .args .bytes .now)) more)
 
 same-length : tie.Need-same-length Inv-loop μ-loop
 same-length c = size (c .before)
@@ -83,10 +83,10 @@ put-longs-spec =
     Inv-loop
     μ-loop
     loop-holds
-    mul-put-number
-    mul-put-number-2
-    shared-slice-read-put-number
-    put-number-requires
+    mul-put-long
+    mul-put-long-2
+    shared-slice-read-put-long
+    put-long-requires
     add-i
     loop-less
     loop-again

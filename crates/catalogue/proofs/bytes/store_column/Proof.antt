@@ -1,13 +1,12 @@
 -- `catalogue::bytes::store_column` meets its contract. The invariant is `StoringIn`: the first u words of the column are stored.
 use Prim.Native.Nat.{ℕ, _+_, _-_, _*_, _≤_, _<_}
 use native.Mathlib.Omega.{arith}
-use mathlib.Core.Path.{_≡_, refl, subst, _∙_}
+use mathlib.Core.Path.{_≡_, refl, _∙_}
 use mathlib.Core.List.{List}
 use borrow.Author.Needs.{needs}
-use lib.ListN.{length, getD}
+use lib.ListN.{length}
 use Rattle.paper.specs.Sizes.{wordBytes}
-use Rattle.paper.specs.Words.{bytesOf, written}
-use Rattle.text.specs.Put.{Put}
+use Rattle.paper.specs.Words.{written}
 use Rattle.text.proofs.Put.{put-length}
 use Rattle.truth.proofs.Area.{in-area}
 use Rattle.catalogue.proofs.Columned.{StoringIn, storing-in-none, storing-in-more, storing-in-all}
@@ -26,8 +25,8 @@ abbrev μ-loop : tie.MeasureT-loop
 abbrev begin : tie.At-loop Inv-loop μ-loop → tie.Start Inv-loop μ-loop
 begin c = c .before .before .before
 
-abbrev entered : tie.After-put-number Inv-loop μ-loop → tie.In-loop Inv-loop μ-loop
-entered c = c .before .before .before .before
+abbrev entered : tie.After-put-word Inv-loop μ-loop → tie.In-loop Inv-loop μ-loop
+entered c = c .before .before .before
 
 -- the word of u and v is in the slice
 room : (c : tie.In-loop Inv-loop μ-loop) → let l = c .before .loop in let a = begin (c .before) .args in
@@ -38,37 +37,26 @@ room c =
     let inside = in-area (s .args .n) (b .loop .u) (s .args .v) (c .loop-test .taken) (s .pre .0) in
     (inside, omega (arith, inside, b .loop .inv .1, s .pre .2))
 
--- the number that is put is the column's word
-put-word : (c : tie.After-put-number Inv-loop μ-loop) → let l = entered c .before .loop in let a = begin (entered c .before) .args in
-    Put (wordBytes * (l .u * a .n + a .v)) (bytesOf wordBytes (getD (a .column .now) (l .u) 0)) (l .bytes) (c .put-number .last .0)
-put-word c =
-    let l = entered c .before .loop in
-    let a = begin (entered c .before) .args in
-    subst (λ (x : ℕ). Put (wordBytes * (l .u * a .n + a .v)) (bytesOf wordBytes x) (l .bytes) (c .put-number .last .0)) (c .before .wide .ensures) (c .put-number .ensures)
-
 loop-holds : tie.Need-loop-holds Inv-loop μ-loop
 loop-holds c = (omega arith, refl, λ words b p q e. storing-in-none _ _ _ words b _ e)
 
-mul-put-number : tie.Need-mul-put-number Inv-loop μ-loop
-mul-put-number c = omega (arith, room (c .before))
+mul-put-word : tie.Need-mul-put-word Inv-loop μ-loop
+mul-put-word c = omega (arith, room (c .before))
 
-add-put-number : tie.Need-add-put-number Inv-loop μ-loop
-add-put-number c = omega (arith, room (c .before))
+add-put-word : tie.Need-add-put-word Inv-loop μ-loop
+add-put-word c = omega (arith, room (c .before))
 
-mul-put-number-2 : tie.Need-mul-put-number-2 Inv-loop μ-loop
-mul-put-number-2 c = omega (arith, room (c .before))
+mul-put-word-2 : tie.Need-mul-put-word-2 Inv-loop μ-loop
+mul-put-word-2 c = omega (arith, room (c .before))
 
-mul-wide : tie.Need-mul-wide Inv-loop μ-loop
-mul-wide c = search needs
+mul-put-word-3 : tie.Need-mul-put-word-3 Inv-loop μ-loop
+mul-put-word-3 c = search needs
 
-shared-slice-read-wide : tie.Need-shared-slice-read-wide Inv-loop μ-loop
-shared-slice-read-wide c = search needs
+shared-slice-read-put-word : tie.Need-shared-slice-read-put-word Inv-loop μ-loop
+shared-slice-read-put-word c = search needs
 
-wide-requires : tie.Need-wide-requires Inv-loop μ-loop
-wide-requires c κs = search needs
-
-put-number-requires : tie.Need-put-number-requires Inv-loop μ-loop
-put-number-requires c κs = omega (arith, room (c .before .before .before) .1)
+put-word-requires : tie.Need-put-word-requires Inv-loop μ-loop
+put-word-requires c κs = omega (arith, room (c .before .before) .1)
 
 add-u : tie.Need-add-u Inv-loop μ-loop
 add-u c = search needs
@@ -81,7 +69,7 @@ loop-again c =
     let p = c .before .before in
     let t = entered p in
     let b = t .before in
-    (omega (arith, t .loop-test .taken), put-length (put-word p) ∙ b .loop .inv .1, λ words base h k e. storing-in-more _ (begin b .pre .0) (t .loop-test .taken) h (b .loop .inv .2 words base h k e) (put-word p))
+    (omega (arith, t .loop-test .taken), put-length (p .put-word .ensures) ∙ b .loop .inv .1, λ words base h k e. storing-in-more _ (begin b .pre .0) (t .loop-test .taken) h (b .loop .inv .2 words base h k e) (p .put-word .ensures))
 
 same-length : tie.Need-same-length Inv-loop μ-loop
 same-length c = c .before .loop .inv .1
@@ -96,13 +84,12 @@ store-column-spec =
     Inv-loop
     μ-loop
     loop-holds
-    mul-put-number
-    add-put-number
-    mul-put-number-2
-    mul-wide
-    shared-slice-read-wide
-    wide-requires
-    put-number-requires
+    mul-put-word
+    add-put-word
+    mul-put-word-2
+    mul-put-word-3
+    shared-slice-read-put-word
+    put-word-requires
     add-u
     loop-less
     loop-again
