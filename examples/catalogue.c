@@ -8,6 +8,7 @@
 
 #include <errno.h>
 #include <fcntl.h>
+#include <limits.h>
 #include <signal.h>
 #include <stdbool.h>
 #include <stdio.h>
@@ -96,7 +97,7 @@ static const struct refusal refusals[] = {
     [ATLAS_BAD_K] =
         {"No office was asked for, or more than the sheet has.",
          "Ask again for at least 1 office and at most as many as the sheet has."},
-    [ATLAS_SHORT_SLICES] = {"A program lent the question too little room for its answer or its work.", NEVER_HERE},
+    [ATLAS_SHORT_SLICES] = {"A program lent the question too little room for its answer, its work or its counts.", NEVER_HERE},
     [ATLAS_SHORT_DISTANCES] = {"A program lent the check too little room for the road lengths.", NEVER_HERE},
     [ATLAS_UNREACHED] = {"Some place cannot be reached by road from some other.", SEND_BACK},
     [ATLAS_IN_NO_BLOCK] = {"A place lies in no block of some other place.", SEND_BACK},
@@ -151,7 +152,7 @@ static bool read_bytes(int file, size_t most, unsigned char *bytes, size_t *coun
 /* Reads a copy of the sheet. It is not mapped: another program could change a mapped file after it was checked. */
 static bool read_sheet(struct host *host, const char *name)
 {
-    unsigned char *no_longer;
+    unsigned char *cut_to_size;
     int file;
     bool is_read;
     if (!lend(&host->sheet, READ_MOST + 3))
@@ -162,9 +163,9 @@ static bool read_sheet(struct host *host, const char *name)
         fprintf(stderr, "%s cannot be read: %s\n", name, strerror(errno));
     if (file >= 0)
         close(file);
-    no_longer = host->sheet_bytes == 0 ? NULL : realloc(host->sheet, host->sheet_bytes);
-    if (no_longer != NULL)
-        host->sheet = no_longer;
+    cut_to_size = host->sheet_bytes == 0 ? NULL : realloc(host->sheet, host->sheet_bytes);
+    if (cut_to_size != NULL)
+        host->sheet = cut_to_size;
     return is_read;
 }
 
@@ -356,7 +357,12 @@ static enum status ask_arguments(struct host *host, char **arguments, size_t cou
     return status;
 }
 
-/* A line of standard input without its end; of a line that is too long for any question, only so much. */
+static bool is_space(char byte)
+{
+    return byte == ' ' || byte == '\t' || byte == '\r';
+}
+
+/* A line of standard input without its end; of a line that is too long for any question, only so much. Blanks beyond that are dropped. */
 struct line {
     char text[80];
     size_t length;
@@ -372,17 +378,12 @@ static bool read_line(struct line *line)
     if (byte == EOF)
         return false;
     for (; byte != EOF && byte != '\n'; byte = getchar()) {
-        if (line->length == sizeof line->text)
-            line->is_too_long = true;
-        else
+        if (line->length < sizeof line->text)
             line->text[line->length++] = (char)byte;
+        else if (!is_space((char)byte))
+            line->is_too_long = true;
     }
     return !ferror(stdin);
-}
-
-static bool is_space(char byte)
-{
-    return byte == ' ' || byte == '\t' || byte == '\r';
 }
 
 static struct written split(const struct line *line, unsigned long count)
@@ -447,7 +448,7 @@ static bool check(const struct host *host, unsigned int *number)
 /* Finds the offices of a sheet that was accepted, and lends for as many as there are: whoever asks for more is refused. */
 static bool prepare(struct host *host)
 {
-    static const size_t record_words[] = {2, 3, 6};
+    static const size_t record_words[] = {ATLAS_PLACE_WORDS, ATLAS_STAGE_WORDS, ATLAS_BLOCK_WORDS};
     size_t section, count_at = 0;
     for (section = 0; section < 3; section++)
         count_at += 1 + record_words[section] * atlas_word32(host->sheet, count_at);

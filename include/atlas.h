@@ -1,7 +1,9 @@
 /* The post-road atlas for C and C++: a sheet is checked, and the k offices nearest by post road from a place of it are listed, or the
-   question is refused by a number. Both functions are proved to do what is said here (docs/CONTRACTS.md).
+   question is refused by a number. What is said here of numbers and of bytes is proved of both functions (docs/CONTRACTS.md), but for the
+   remark at 19; the stack is measured.
 
-   ./library proves and builds libatlas.a and puts it beside this file. It needs x86-64 and the C library, and nothing else:
+   ./library proves and builds libatlas.a and puts it beside this file. It needs x86-64 with the calling
+   convention of Linux (System V), and the C library, and nothing else:
 
        cc -Iinclude -o host host.c include/libatlas.a
 
@@ -14,14 +16,16 @@
        blocks     place, code, level, colour, low ratio, high ratio
        offices    place                                              M of them, numbered from 0
 
-   NOTHING IS ASKED OF THE CALLER. Any bytes may be a sheet, any numbers a question, and any slice may be too short: each is served or
-   refused by its number, and nothing is taken to have been checked before.
+   NO INPUT IS BAD. Any bytes may be a sheet, any numbers a question, and any slice may be too short: each is served or refused by its
+   number, and nothing is taken to have been checked before. What is asked of the caller stands under LENDING and ATLAS_STACK_BYTES.
 
    But a question does not check that the sheet tells the truth. Where answers are to be relied on, ask only sheets that atlas_check
    accepted: there each answer lists the nearest offices, and 16 to 19 never come.
 
-   LENDING. A slice is a pointer and its length in bytes. No slice that is written may overlap another slice of the same call. A pointer
-   may be NULL where its length is 0. A slice may be longer than is needed and need not be aligned. Nothing is kept after the return.
+   LENDING. A slice is a pointer and its length in bytes, all of which can be read, and written where it is not the sheet. No slice that
+   is written may overlap another slice of the same call, and nothing else may write a slice, the sheet included, until the call returns
+   (a mapped file that another program changes will not do). A pointer may be NULL where its length is 0. A slice may be longer than is
+   needed and need not be aligned. Nothing is kept after the return.
 
    THREADS. Any number of threads may call at once: there is no state. One sheet may serve them all, since it is only read; the other
    slices each call has for itself. Memory is taken from the stack alone: see ATLAS_STACK_BYTES. */
@@ -36,8 +40,8 @@
 #error "atlas.h takes a byte as unsigned char and a 32-bit word as unsigned int"
 #endif
 
-/* The stack that a call needs, in bytes, whatever the sheet. A thread must have this much left; one that has less is stopped at its guard
-   page. (Measured: 430,455 bytes for the check and 438,871 for the question, at the largest sheet.) */
+/* The stack that a call needs, in bytes, whatever the sheet. A thread must have this much left; one that has less is stopped at its
+   guard page, if it has one. tests/catalogue measures that it is enough. */
 #define ATLAS_STACK_BYTES 458752
 
 /* The most records of each section (the least is 1 place, and 0 of the others), and the bytes of the largest sheet that there is. */
@@ -47,8 +51,16 @@
 #define ATLAS_OFFICES_MOST 4096
 #define ATLAS_SHEET_MOST 6414352
 
-/* The numbers that are returned. Each is given when its condition is the first met, in the order in which the functions below name
-   them, so a sheet may have more faults than the one told. */
+/* The 32-bit words of a record. The count of a section follows the last record of the one before: N is word 0 of the sheet, and M is word
+   3 + ATLAS_PLACE_WORDS * N + ATLAS_STAGE_WORDS * (count of stages) + ATLAS_BLOCK_WORDS * (count of blocks). */
+#define ATLAS_PLACE_WORDS 2
+#define ATLAS_STAGE_WORDS 3
+#define ATLAS_BLOCK_WORDS 6
+#define ATLAS_OFFICE_WORDS 1
+
+/* The numbers that are returned. Each is given exactly when its condition is the first met, so a sheet may have more faults than the one
+   told. The layout is tested in this order: a length in whole words (1); section by section, the count there (1), in its range (2), the
+   records there (1); nothing after the last (1); then 3, 4, 5, 6, each over its whole section. */
 
 /* the check accepted, the question was answered */
 #define ATLAS_ACCEPTED 0U
@@ -96,8 +108,8 @@
 extern "C" {
 #endif
 
-/* Whether a sheet tells the truth about its roads: the number, 0 where it is accepted. In order: 1 to 6, 10, 11, then 12 to 14 pair
-   by pair, then 15.
+/* Whether a sheet tells the truth about its roads: the number, 0 where it is accepted. In order: the layout (1 to 6), 10, 11 over all
+   pairs, then the pairs by u and then v, the first faulty one giving the lowest of 12, 13 and 14, then 15.
 
    distances   at least ATLAS_DISTANCES_BYTES(N) bytes; else 10
 
@@ -107,8 +119,9 @@ extern "C" {
    Later bytes of distances are never touched. */
 unsigned int atlas_check(const unsigned char *sheet, size_t sheet_bytes, unsigned char *distances, size_t distances_bytes);
 
-/* Lists the k offices nearest by road from place q, nearest first and at equal roads the lower number first: the number, 0 where they
-   are listed. In order: 1 to 6, 7, 8, 9, then the walk.
+/* Lists the k offices nearest by road from place q, nearest first and at equal roads the lower number first (on an accepted sheet; on
+   any other, as its blocks have it): the number, 0 where they are listed. In order: the layout (1 to 6), 7, 8, 9, then the walk: a first
+   interval, office by office, is tested for 17, 19, 18, a refinement for 16, 17, 19, 18.
 
    answer      at least ATLAS_ANSWER_BYTES(k) bytes; else 9
    working     at least ATLAS_WORKING_BYTES(M) bytes; else 9
@@ -129,8 +142,8 @@ unsigned int atlas_question(const unsigned char *sheet, size_t sheet_bytes, unsi
 }
 #endif
 
-/* How many bytes to lend. N is the sheet's word 0. A host that lends for the largest sheet needs to know neither N nor M: there are
-   constants for arrays. (The exact bytes of distances are worked out by a function, and are no constant expression.) */
+/* How many bytes to lend. A host that lends for the largest sheet needs to know neither N nor M: there are constants for arrays. (The
+   exact bytes of distances are worked out by a function, and are no constant expression.) */
 #define ATLAS_DISTANCES_BYTES(places) (4 * atlas_square(places))
 #define ATLAS_ANSWER_BYTES(k) ((size_t)(k) * 32)
 #define ATLAS_WORKING_BYTES(offices) ((size_t)(offices) * 48)
@@ -140,8 +153,8 @@ unsigned int atlas_question(const unsigned char *sheet, size_t sheet_bytes, unsi
 #define ATLAS_ANSWER_MOST 131072
 #define ATLAS_WORKING_MOST 196608
 
-/* The 64-bit words of answer: listed office number j has these, counted from word j * ATLAS_LINE_WORDS. The true length of the road
-   lies between the two ends, ends included. */
+/* The 64-bit words of answer: listed office number j has these, counted from word j * ATLAS_LINE_WORDS. On an accepted sheet the length
+   of the shortest road lies between the two ends, ends included. */
 #define ATLAS_LINE_WORDS 4
 #define ATLAS_LINE_OFFICE 0
 #define ATLAS_LINE_LOW_END 1

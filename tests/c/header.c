@@ -39,8 +39,10 @@ static void sizes(void)
     expect(ATLAS_DISTANCES_BYTES(ATLAS_PLACES_MOST) == ATLAS_DISTANCES_MOST, "distances of the largest sheet");
     expect(ATLAS_ANSWER_BYTES(ATLAS_OFFICES_MOST) == ATLAS_ANSWER_MOST, "answer of the largest sheet");
     expect(ATLAS_WORKING_BYTES(ATLAS_OFFICES_MOST) == ATLAS_WORKING_MOST, "working of the largest sheet");
-    expect(4 * (4 + 2 * ATLAS_PLACES_MOST + 3 * ATLAS_STAGES_MOST + 6 * ATLAS_BLOCKS_MOST + ATLAS_OFFICES_MOST) == ATLAS_SHEET_MOST,
+    expect(4 * (4 + ATLAS_PLACE_WORDS * ATLAS_PLACES_MOST + ATLAS_STAGE_WORDS * ATLAS_STAGES_MOST + ATLAS_BLOCK_WORDS * ATLAS_BLOCKS_MOST +
+                ATLAS_OFFICE_WORDS * ATLAS_OFFICES_MOST) == ATLAS_SHEET_MOST,
            "the largest sheet: four counts and all records");
+    expect(ATLAS_SHEET_MOST == 6414352, "the largest sheet in bytes");
 }
 
 static void words(void)

@@ -2,6 +2,7 @@
    furlong leads from each place to the next, in a ring; seven more of 65,535 furlongs leave it, by which no shortest road goes. */
 
 #include <atlas.h>
+#include <limits.h>
 #include <stdio.h>
 
 #define SIDE 32

@@ -1,5 +1,6 @@
 /* stack SHEET Q K: how many bytes of stack the check and the question need on a sheet. Each is called on a thread whose stack was painted
-   before; what is no longer paint was used. Exit status 1 where it is more than the header says, or the call was refused. POSIX threads. */
+   before; what is no longer paint was used. Exit status 1 where it is more than the header says, or the call was refused;
+   2 where nothing could be measured. POSIX threads. */
 
 #define _POSIX_C_SOURCE 200809L
 
@@ -98,7 +99,7 @@ int main(int argc, char **argv)
     struct call call;
     int all_hold;
     if (file == NULL)
-        stop("usage: stack SHEET Q K");
+        stop("usage: stack SHEET Q K, of a sheet that can be read");
     sheet_bytes = fread(sheet, 1, sizeof sheet, file);
     fclose(file);
     q = (unsigned int)strtoul(argv[2], NULL, 10);
