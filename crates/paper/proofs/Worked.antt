@@ -3,15 +3,19 @@ use Prim.Native.Nat.{ℕ, _+_, _*_, _≤_}
 use native.Mathlib.Omega.{arith}
 use mathlib.Core.Path.{_≡_, refl}
 use mathlib.Core.Bool.{true}
-use mathlib.Core.List.{List, _++_}
+use mathlib.Core.List.{List, [], _∷_, _++_}
 use lib.Dec.{leb}
-use lib.ListN.{length, drop, length-append, length-drop, List·getD-append}
+use lib.ListN.{length, drop, replicate, length-append, length-drop, List·getD-append}
 use borrow.Author.Tests.{le-leb}
+use Rattle.paper.specs.Sizes.{longBytes}
 use Rattle.paper.specs.Test.{both}
 use Rattle.paper.specs.Sheet.{mapOf, officesOf, word}
 use Rattle.paper.proofs.LaidOut.{LaidOut}
 use Rattle.paper.specs.Verdict.{Tabled, Distances, Checked, judged, Accepted}
-use Rattle.paper.specs.Reply.{invalid, reply, Answered}
+use Rattle.paper.specs.Reply.{invalid, linesOut, reply, Answered}
+use Rattle.paper.specs.Listing.{listing}
+use Rattle.paper.specs.Words.{wordsOf, asBytes}
+use Rattle.paper.specs.Host.{HostReply, hostInvalid, hostReply, HostValid}
 use Rattle.paper.specs.Marked.{sheet, map}
 use Rattle.paper.proofs.Test.{both-true, due-zero}
 use Rattle.paper.proofs.Laid.{laid-out}
@@ -52,3 +56,15 @@ unfolding mapOf officesOf sheet word invalid
 sheet-answered answer working h g =
     reply-answered sheet 2 2 answer working sheet-bytes accepted
     (due-zero (both (leb 8 (length answer)) (leb 18 (length working))) 9 (both-true (leb 8 (length answer)) (leb 18 (length working)) (le-leb _ _ h) (le-leb _ _ g)))
+
+-- the same question through C, with slices that are just long enough: it is valid, and this stands in the answer and in the counts
+abbrev hostMarked : HostReply
+hostMarked = hostReply sheet 2 2 (replicate 64 0) (replicate 144 0) (replicate 16 0)
+
+pub host-marked-valid : HostValid sheet 2 2 (replicate 64 0) (replicate 144 0) (replicate 16 0)
+unfolding hostInvalid invalid mapOf officesOf sheet word wordsOf
+host-marked-valid = refl
+
+pub host-marked : (hostMarked .number ≡ 0) × (hostMarked .answer ≡ asBytes longBytes (2 ∷ 5 ∷ 5 ∷ 1 ∷ 0 ∷ 11 ∷ 11 ∷ 2 ∷ [])) × (hostMarked .counts ≡ asBytes longBytes (2 ∷ 5 ∷ []))
+unfolding hostReply sheet word wordsOf asBytes listing linesOut
+host-marked = (refl, refl, refl)
