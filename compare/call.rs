@@ -51,7 +51,7 @@ impl fmt::Display for Ask {
     }
 }
 
-/// Bytes that differ from their neighbours and from call to call.
+/// Bytes in no order, others for each salt.
 fn fill(bytes: &mut [u8], salt: u64) {
     let mut state = salt;
     for byte in bytes {

@@ -80,7 +80,7 @@ impl Worker<'_> {
         self.calls(rng, which, bytes, &calls);
     }
 
-    /// A check of a full-size sheet takes the second program a second, so not every form is checked each time.
+    /// The second program is slow to check a full-size sheet, so not every form is checked each time.
     fn full(&mut self, rng: &mut Rng, which: Which, bytes: &[u8], form: usize) {
         let sheet = Sheet::from_bytes(bytes).ok();
         let sizes = Sizes::of(sheet.as_ref());

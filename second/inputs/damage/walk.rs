@@ -25,7 +25,7 @@ fn trees_lost(rng: &mut Rng, sheet: &mut Sheet) {
     sheet.blocks.retain(|b| !places[b.place as usize]);
 }
 
-/// Places that see all roads as over twice as long as they are: the overlap is empty where a walk comes by (18).
+/// Places that see all roads as longer than they are: the overlap is empty where a walk comes by (18).
 fn ends_cross(rng: &mut Rng, sheet: &mut Sheet) {
     let places = some_places(rng, sheet);
     for block in sheet.blocks.iter_mut().filter(|b| places[b.place as usize]) {
