@@ -66,13 +66,29 @@ fn asks(
     }
 }
 
+/// The marked sheet with one change.
+fn changed(change: fn(&mut Sheet)) -> Vec<u8> {
+    let mut sheet = marked::sheet();
+    change(&mut sheet);
+    sheet.to_bytes()
+}
+
 fn tables(tally: &mut Tally) {
     let table: Vec<u8> = ROADS.iter().flat_map(|&road| [road as u8, 0, 0, 0]).collect();
-    let mut untrue = marked::sheet();
-    untrue.blocks[5].low = 65;
+    let sheets = [
+        (0, marked::sheet().to_bytes()),
+        // Place 3 has no block.
+        (12, changed(|sheet| sheet.blocks.truncate(6))),
+        // From place 0 to place 3 by way of place 1 is 6 + 15, not 9.
+        (13, changed(|sheet| sheet.blocks[0].colour = 0)),
+        (14, changed(|sheet| sheet.blocks[5].low = 65)),
+        // A block of place 0 about place 0 alone.
+        (15, changed(|sheet| sheet.blocks.insert(0, block([0, 0, 1, 0, 0, 0])))),
+    ];
     for length in [TABLE, TABLE + 1, TABLE + 2, TABLE + 3, TABLE + 4, 1_000] {
-        checks(tally, "a table", &marked::sheet().to_bytes(), length, (0, &table));
-        checks(tally, "a table after 14", &untrue.to_bytes(), length, (14, &table));
+        for (number, sheet) in &sheets {
+            checks(tally, &format!("a table with {number}"), sheet, length, (*number, &table));
+        }
     }
 }
 
@@ -89,7 +105,17 @@ fn no_table(tally: &mut Tally) {
         checks(tally, "1 before 10", &[0; 7], length, (1, &[]));
         checks(tally, "2 before 10", &[0; 8], length, (2, &[]));
     }
-    checks(tally, "1 with room", &[], 1_000, (1, &[]));
+    let sheets = [
+        (1, Vec::new()),
+        (2, vec![0; 8]),
+        (3, changed(|sheet| sheet.places[0].x = 1_024)),
+        (4, changed(|sheet| sheet.stages[0].length = 0)),
+        (5, changed(|sheet| sheet.blocks[0].level = 11)),
+        (6, changed(|sheet| sheet.offices[0] = 4)),
+    ];
+    for (number, sheet) in sheets {
+        checks(tally, &format!("{number} with room"), &sheet, 1_000, (number, &[]));
+    }
 }
 
 fn listings(tally: &mut Tally) {
