@@ -27,7 +27,7 @@ pub struct Call {
 pub struct Outcome {
     pub number: Number,
     slices: Vec<Vec<u8>>,
-    /// Whether the sheet is as before, and what lies beside the slices.
+    /// Whether the sheet is as before, and what lies beside it and the slices.
     kept: bool,
 }
 
@@ -36,7 +36,7 @@ pub struct Slices(Vec<Guarded>);
 
 impl Slices {
     pub fn new() -> Slices {
-        Slices((0..3).map(|_| Guarded::with_room(1)).collect())
+        Slices((0..3).map(|_| Guarded::with_room(0)).collect())
     }
 }
 
@@ -100,7 +100,6 @@ impl Call {
         for (i, (slice, length)) in lent.iter_mut().zip(self.lengths()).enumerate() {
             slice.lend(length, self.guards[i]);
             fill(slice.bytes_mut(), self.salt_of(i));
-            fill(slice.watched(), !self.salt_of(i));
         }
         let number = match (self.ask, &mut lent[..]) {
             (Ask::Question(q, k, _), [answer, working, counts]) => {
@@ -108,15 +107,8 @@ impl Call {
             }
             (_, slices) => library::check(sheet, &mut slices[0]),
         };
-        let kept = sheet.bytes() == bytes && (0..lent.len()).all(|i| self.is_watched(&mut lent[i], i));
+        let kept = sheet.bytes() == bytes && sheet.is_kept_beside() && lent.iter().all(Guarded::is_kept_beside);
         Outcome { number, slices: lent.iter().map(|slice| slice.bytes().to_vec()).collect(), kept }
-    }
-
-    fn is_watched(&self, slice: &mut Guarded, i: usize) -> bool {
-        let found = slice.watched();
-        let mut due = vec![0; found.len()];
-        fill(&mut due, !self.salt_of(i));
-        found == due
     }
 
     /// Nothing where the two are the same; else what differs first.
@@ -129,6 +121,6 @@ impl Call {
                 return Some(format!("byte {at} of the {name} is {} where {} is due", found[at], due[at]));
             }
         }
-        (found != due).then(|| String::from("the sheet or a byte beside a slice was changed"))
+        (found != due).then(|| String::from("the sheet, or a byte beside it or a slice, was changed"))
     }
 }

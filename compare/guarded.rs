@@ -1,6 +1,7 @@
 //! Slices that begin or end at a page that cannot be read, so that a stray read or write is a crash.
 
 use std::ffi::c_void;
+use std::ops::Range;
 use std::ptr;
 use std::slice;
 
@@ -17,14 +18,27 @@ extern "C" {
     fn munmap(at: *mut c_void, length: usize) -> i32;
 }
 
-/// On which side of the slice the unreadable page stands. On the other side some bytes are watched.
+/// Where the unreadable page stands. Where it does not stand at the slice, some bytes beside the slice are watched.
 #[derive(Clone, Copy, PartialEq, Debug)]
 pub enum Guard {
     Before,
     After,
+    /// Some bytes before the slice, which begins at an odd address.
+    Odd,
 }
 
+impl Guard {
+    pub const ALL: [Guard; 3] = [Guard::Before, Guard::After, Guard::Odd];
+
+    /// Whether a slice of this length is lent as NULL.
+    pub fn is_null(self, length: usize) -> bool {
+        length == 0 && self == Guard::After
+    }
+}
+
+const ODD: usize = 3;
 const WATCHED: usize = 64;
+const WATCHED_BYTE: u8 = 0xA5;
 
 /// Room between two unreadable pages, and the slice that is lent of it.
 pub struct Guarded {
@@ -40,7 +54,7 @@ unsafe impl Sync for Guarded {}
 
 impl Guarded {
     pub fn with_room(bytes: usize) -> Guarded {
-        let room = bytes.max(1).next_multiple_of(PAGE);
+        let room = (bytes + ODD).next_multiple_of(PAGE);
         // SAFETY: a new mapping; the pages between the first and the last are opened.
         let first = unsafe {
             let whole = mmap(ptr::null_mut(), room + 2 * PAGE, NO_ACCESS, PRIVATE_ANONYMOUS, -1, 0);
@@ -62,24 +76,38 @@ impl Guarded {
 
     /// Lends a slice of this length.
     pub fn lend(&mut self, length: usize, guard: Guard) {
-        if length > self.room {
+        if length + ODD > self.room {
             *self = Guarded::with_room(length);
         }
         (self.length, self.guard) = (length, guard);
+        for beside in self.beside() {
+            // SAFETY: within the room, which is borrowed as a whole.
+            unsafe { slice::from_raw_parts_mut(self.first.add(beside.start), beside.len()) }.fill(WATCHED_BYTE);
+        }
     }
 
     fn from(&self) -> usize {
-        if self.guard == Guard::Before { 0 } else { self.room - self.length }
+        match self.guard {
+            Guard::Before => 0,
+            Guard::After => self.room - self.length,
+            Guard::Odd => ODD,
+        }
+    }
+
+    /// The watched bytes before and after the slice.
+    fn beside(&self) -> [Range<usize>; 2] {
+        let (from, to) = (self.from(), self.from() + self.length);
+        [from.saturating_sub(WATCHED)..from, to..self.room.min(to + WATCHED)]
     }
 
     /// An empty slice is NULL, or else stands where nothing can be read.
     pub fn pointer(&self) -> *mut u8 {
-        match (self.length, self.guard) {
-            (0, Guard::After) => ptr::null_mut(),
-            // SAFETY: at most one past the room.
-            (0, Guard::Before) => unsafe { self.first.add(self.room) },
-            _ => unsafe { self.first.add(self.from()) },
+        if self.guard.is_null(self.length) {
+            return ptr::null_mut();
         }
+        let closed = if self.length == 0 { self.room } else { 0 };
+        // SAFETY: within the room or the page after it.
+        unsafe { self.first.add(closed + self.from()) }
     }
 
     pub fn length(&self) -> usize {
@@ -96,12 +124,13 @@ impl Guarded {
         unsafe { slice::from_raw_parts_mut(self.first.add(self.from()), self.length) }
     }
 
-    /// The bytes beside the slice where it has no unreadable page.
-    pub fn watched(&mut self) -> &mut [u8] {
-        let count = WATCHED.min(self.room - self.length);
-        let from = if self.guard == Guard::Before { self.length } else { self.from() - count };
-        // SAFETY: within the room, which is borrowed as a whole.
-        unsafe { slice::from_raw_parts_mut(self.first.add(from), count) }
+    /// Whether the watched bytes are as when the slice was lent.
+    pub fn is_kept_beside(&self) -> bool {
+        self.beside().into_iter().all(|beside| {
+            // SAFETY: within the room.
+            let bytes = unsafe { slice::from_raw_parts(self.first.add(beside.start), beside.len()) };
+            bytes.iter().all(|&byte| byte == WATCHED_BYTE)
+        })
     }
 }
 

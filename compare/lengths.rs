@@ -35,7 +35,7 @@ impl Sizes {
 }
 
 fn call(rng: &mut Rng, ask: Ask) -> Call {
-    let guards = [(); 3].map(|()| rng.pick(&[Guard::Before, Guard::After]));
+    let guards = [(); 3].map(|()| rng.pick(&Guard::ALL));
     Call { ask, salt: rng.next(), guards }
 }
 

@@ -98,7 +98,7 @@ impl Worker<'_> {
     }
 
     fn calls(&mut self, rng: &mut Rng, which: Which, bytes: &[u8], calls: &[Call]) {
-        let sheet = Guarded::holding(bytes, rng.pick(&[Guard::Before, Guard::After]));
+        let sheet = Guarded::holding(bytes, rng.pick(&Guard::ALL));
         for call in calls {
             let due = call.due(bytes);
             calling(which, call.ask);

@@ -2,7 +2,6 @@
 //! each bad input was lent.
 
 use crate::call::{Ask, Call};
-use crate::guarded::Guard;
 use crate::rules::limits::{LONG_WORD_BYTES, WORD_BYTES};
 use crate::rules::refusal::*;
 
@@ -53,7 +52,7 @@ fn inputs(call: &Call, sheet: &[u8], due: Number) -> [bool; INPUTS] {
         Ask::Question(_, _, lengths) => (Some(lengths[2]), LONG_WORD_BYTES),
     };
     let largest = sheet.len() == LARGEST_SHEET && counts.is_none() && due == ACCEPTED;
-    let null = lengths.iter().zip(call.guards).any(|(&length, guard)| length == 0 && guard == Guard::After);
+    let null = lengths.iter().zip(call.guards).any(|(&length, guard)| guard.is_null(length));
     let odd = lengths.iter().any(|length| !length.is_multiple_of(word));
     let [none, short, exact, more] = [0, 15, 16, 17].map(|bytes| counts == Some(bytes));
     [sheet.is_empty(), largest, null, odd, none, short, exact, more]

@@ -30,7 +30,7 @@ pub fn at_once(which: Which) -> Table {
     let mut rng = Rng::new(which.seed, which.index);
     let sheets = sheets(&mut rng);
     let bytes: Vec<Vec<u8>> = sheets.iter().map(Sheet::to_bytes).collect();
-    let held: Vec<Guarded> = bytes.iter().map(|bytes| Guarded::holding(bytes, Guard::After)).collect();
+    let held: Vec<Guarded> = bytes.iter().map(|bytes| Guarded::holding(bytes, rng.pick(&Guard::ALL))).collect();
     let mut tasks = Vec::new();
     for (i, sheet) in sheets.iter().enumerate() {
         for call in calls(&mut rng, sheet) {
