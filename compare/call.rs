@@ -1,18 +1,12 @@
 //! One call: what the library leaves, what the second program says is due, and where they differ.
 
+use crate::ask::Ask;
+use crate::crash::noted;
 use crate::guarded::{Guard, Guarded};
 use crate::library;
 use crate::rules::host;
 use crate::rules::refusal::Number;
-use std::fmt;
-
-#[derive(Clone, Copy)]
-pub enum Ask {
-    /// The check, lent so many bytes.
-    Check(usize),
-    /// The question, with q and k, lent so many bytes of answer, working slice and counts.
-    Question(u32, u32, [usize; 3]),
-}
+use crate::which::Which;
 
 #[derive(Clone, Copy)]
 pub struct Call {
@@ -37,17 +31,6 @@ pub struct Slices(Vec<Guarded>);
 impl Slices {
     pub fn new() -> Slices {
         Slices((0..3).map(|_| Guarded::with_room(0)).collect())
-    }
-}
-
-impl fmt::Display for Ask {
-    fn fmt(&self, out: &mut fmt::Formatter) -> fmt::Result {
-        match self {
-            Ask::Check(bytes) => write!(out, "check, distances of {bytes} bytes"),
-            Ask::Question(q, k, [answer, working, counts]) => {
-                write!(out, "question q = {q}, k = {k}, answer of {answer} bytes, working {working}, counts {counts}")
-            }
-        }
     }
 }
 
@@ -95,18 +78,18 @@ impl Call {
     }
 
     /// By the library, on guarded slices; the bytes are those that the sheet should still have.
-    pub fn found(&self, sheet: &Guarded, bytes: &[u8], slices: &mut Slices) -> Outcome {
+    pub fn found(&self, which: Which, sheet: &Guarded, bytes: &[u8], slices: &mut Slices) -> Outcome {
         let lent = &mut slices.0[..self.names().len()];
         for (i, (slice, length)) in lent.iter_mut().zip(self.lengths()).enumerate() {
             slice.lend(length, self.guards[i]);
             fill(slice.bytes_mut(), self.salt_of(i));
         }
-        let number = match (self.ask, &mut lent[..]) {
+        let number = noted(which, self.ask, || match (self.ask, &mut lent[..]) {
             (Ask::Question(q, k, _), [answer, working, counts]) => {
                 library::question(sheet, (q, k), answer, working, counts)
             }
             (_, slices) => library::check(sheet, &mut slices[0]),
-        };
+        });
         let kept = sheet.bytes() == bytes && sheet.is_kept_beside() && lent.iter().all(Guarded::is_kept_beside);
         Outcome { number, slices: lent.iter().map(|slice| slice.bytes().to_vec()).collect(), kept }
     }

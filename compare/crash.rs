@@ -1,6 +1,6 @@
 //! Says in which call the library crashed, as by touching the unreadable page beside a slice.
 
-use crate::call::Ask;
+use crate::ask::Ask;
 use crate::which::Which;
 use std::cell::Cell;
 use std::ffi::c_void;
@@ -21,9 +21,12 @@ thread_local! {
     static CALLING: Cell<Option<(Which, Ask)>> = const { Cell::new(None) };
 }
 
-/// Notes what this thread is about to call.
-pub fn calling(which: Which, ask: Ask) {
+/// Makes a call of the library, noted while this thread is in it.
+pub fn noted<T>(which: Which, ask: Ask, call: impl FnOnce() -> T) -> T {
     CALLING.set(Some((which, ask)));
+    let given = call();
+    CALLING.set(None);
+    given
 }
 
 pub fn watch() {

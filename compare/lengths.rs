@@ -1,6 +1,7 @@
 //! The calls that are made on a sheet: q and k in and out of range, and slices at, about and far from their limits.
 
-use crate::call::{Ask, Call};
+use crate::ask::Ask;
+use crate::call::Call;
 use crate::guarded::Guard;
 use crate::inputs::draw::ask;
 use crate::inputs::rng::Rng;

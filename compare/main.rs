@@ -1,6 +1,7 @@
 //! Compares the library, through its two C functions, with the second program's account of a host's bytes: the number
 //! and every byte of every slice, on true and damaged sheets.
 
+mod ask;
 #[path = "../include/atlas.rs"]
 mod atlas;
 mod call;

@@ -1,7 +1,6 @@
 //! Compares all calls on one sheet, and shares many sheets out to threads.
 
 use crate::call::{Call, Slices};
-use crate::crash::calling;
 use crate::guarded::{Guard, Guarded};
 use crate::inputs::edges;
 use crate::inputs::edges::edge::Edge;
@@ -101,8 +100,7 @@ impl Worker<'_> {
         let sheet = Guarded::holding(bytes, rng.pick(&Guard::ALL));
         for call in calls {
             let due = call.due(bytes);
-            calling(which, call.ask);
-            let found = call.found(&sheet, bytes, &mut self.slices);
+            let found = call.found(which, &sheet, bytes, &mut self.slices);
             self.table.met(call, bytes, due.number);
             if let Some(difference) = call.difference(&found, &due) {
                 self.table.differ(format!("{which}: {}: {difference}", call.ask));

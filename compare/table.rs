@@ -1,7 +1,8 @@
 //! The count of sheets, calls and differences, of how often each function was due to give each number, and of how often
 //! each bad input was lent.
 
-use crate::call::{Ask, Call};
+use crate::ask::Ask;
+use crate::call::Call;
 use crate::rules::limits::{LONG_WORD_BYTES, WORD_BYTES};
 use crate::rules::refusal::*;
 

@@ -1,7 +1,6 @@
 //! Several threads call at once, on the same sheets and on different ones, each with its own slices.
 
 use crate::call::{Call, Outcome, Slices};
-use crate::crash::calling;
 use crate::guarded::{Guard, Guarded};
 use crate::inputs::damage::walk::WALK_FAULTS;
 use crate::inputs::draw::true_sheet;
@@ -48,8 +47,7 @@ fn one_thread(which: Which, tasks: &[Task], number: usize, start: &Barrier) -> T
     for first in [0, number * tasks.len() / THREADS] {
         start.wait();
         for task in tasks[first..].iter().chain(&tasks[..first]) {
-            calling(which, task.call.ask);
-            let found = task.call.found(task.sheet, task.bytes, &mut slices);
+            let found = task.call.found(which, task.sheet, task.bytes, &mut slices);
             table.at_once += 1;
             if let Some(difference) = task.call.difference(&found, &task.due) {
                 table.differ(format!("{which}: {}: {difference}", task.call.ask));
