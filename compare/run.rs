@@ -101,7 +101,7 @@ impl Worker<'_> {
         for call in calls {
             let due = call.due(bytes);
             let found = call.found(which, &sheet, bytes, &mut self.slices);
-            self.table.met(call, bytes, due.number);
+            self.table.met(call, &sheet, due.number);
             if let Some(difference) = call.difference(&found, &due) {
                 self.table.differ(format!("{which}: {}: {difference}", call.ask));
             }

@@ -3,7 +3,8 @@
 
 use crate::ask::Ask;
 use crate::call::Call;
-use crate::rules::limits::{LONG_WORD_BYTES, WORD_BYTES};
+use crate::guarded::Guarded;
+use crate::rules::limits::*;
 use crate::rules::refusal::*;
 
 const DIFFERENCES_SHOWN: usize = 20;
@@ -12,14 +13,23 @@ const DIFFERENCES_SHOWN: usize = 20;
 const OF_CHECK: [Number; 13] = [0, 1, 2, 3, 4, 5, 6, 10, 11, 12, 13, 14, 15];
 const OF_QUESTION: [Number; 13] = [0, 1, 2, 3, 4, 5, 6, 7, 8, 9, 16, 17, 18];
 
-/// The bytes of 1,024 places, 8,192 stages, 262,144 blocks and 4,096 offices with their counts.
-const LARGEST_SHEET: usize = 6_414_352;
+/// The bytes of the four counts and of the most records.
+const LARGEST_SHEET: usize = WORD_BYTES
+    * (4 + *PLACES.end() as usize * PLACE_WORDS
+        + *STAGES.end() as usize * STAGE_WORDS
+        + *BLOCKS.end() as usize * BLOCK_WORDS
+        + *OFFICES.end() as usize * OFFICE_WORDS);
 
-const INPUTS: usize = 8;
+const INPUTS: usize = 13;
 const INPUT_NAMES: [&str; INPUTS] = [
     "no bytes of sheet",
-    "6,414,352 bytes of sheet, the most there can be, and accepted",
-    "a slice that is NULL",
+    "the largest sheet there can be, accepted",
+    "a sheet at an odd address, accepted",
+    "a sheet that is NULL",
+    "distances that are NULL",
+    "an answer that is NULL",
+    "a working slice that is NULL",
+    "counts that are NULL",
     "a slice of no whole words",
     "counts of 0 bytes",
     "counts of 15 bytes",
@@ -46,21 +56,25 @@ pub struct Table {
 }
 
 /// Which of the inputs to be met a call is.
-fn inputs(call: &Call, sheet: &[u8], due: Number) -> [bool; INPUTS] {
+fn inputs(call: &Call, sheet: &Guarded, due: Number) -> [bool; INPUTS] {
     let lengths = call.lengths();
-    let (counts, word) = match call.ask {
-        Ask::Check(_) => (None, WORD_BYTES),
-        Ask::Question(_, _, lengths) => (Some(lengths[2]), LONG_WORD_BYTES),
+    let null = |slice: usize| call.guards[slice].is_null(lengths[slice]);
+    let (word, counts, [distances, answer, working, no_counts]) = match call.ask {
+        Ask::Check(_) => (WORD_BYTES, None, [null(0), false, false, false]),
+        Ask::Question(..) => (LONG_WORD_BYTES, Some(lengths[2]), [false, null(0), null(1), null(2)]),
     };
-    let largest = sheet.len() == LARGEST_SHEET && counts.is_none() && due == ACCEPTED;
-    let null = lengths.iter().zip(call.guards).any(|(&length, guard)| guard.is_null(length));
-    let odd = lengths.iter().any(|length| !length.is_multiple_of(word));
+    let accepted = counts.is_none() && due == ACCEPTED;
+    let largest = accepted && sheet.length() == LARGEST_SHEET;
+    let odd = accepted && !sheet.pointer().addr().is_multiple_of(2);
+    let no_sheet = sheet.pointer().is_null();
+    let broken = lengths.iter().any(|length| !length.is_multiple_of(word));
     let [none, short, exact, more] = [0, 15, 16, 17].map(|bytes| counts == Some(bytes));
-    [sheet.is_empty(), largest, null, odd, none, short, exact, more]
+    let empty = sheet.length() == 0;
+    [empty, largest, odd, no_sheet, distances, answer, working, no_counts, broken, none, short, exact, more]
 }
 
 impl Table {
-    pub fn met(&mut self, call: &Call, sheet: &[u8], due: Number) {
+    pub fn met(&mut self, call: &Call, sheet: &Guarded, due: Number) {
         let numbers = if matches!(call.ask, Ask::Check(_)) { &mut self.checks } else { &mut self.questions };
         numbers[due as usize] += 1;
         for (count, is) in self.inputs.iter_mut().zip(inputs(call, sheet, due)) {
