@@ -1,4 +1,5 @@
-//! Slices that begin or end at a page that cannot be read, so that a stray read or write is a crash.
+//! Slices that begin or end at a page that cannot be read, so that a stray read or write is a crash; others begin at an
+//! odd address.
 
 use std::ffi::c_void;
 use std::ops::Range;
@@ -36,6 +37,7 @@ impl Guard {
     }
 }
 
+/// How far behind the page an odd slice begins.
 const ODD: usize = 3;
 const WATCHED: usize = 64;
 const WATCHED_BYTE: u8 = 0xA5;

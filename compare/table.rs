@@ -1,5 +1,5 @@
 //! The count of sheets, calls and differences, of how often each function was due to give each number, and of how often
-//! each bad input was lent.
+//! each input that has to be met was lent.
 
 use crate::ask::Ask;
 use crate::call::Call;
