@@ -11,7 +11,7 @@ ghost use Rattle.paper.specs.Words.{bytesOf, written, Fit};
 ghost use Rattle.text.specs.Put.{Put};
 ghost use Rattle.catalogue.specs.Handed.{StoredIn};
 
-// The numbers of 32 bits.
+// How many numbers there are of 32 bits: a word of 64 bits has two such halves.
 const HALF: u64 = 4_294_967_296;
 
 // The four bytes of x, from byte `at` on.
