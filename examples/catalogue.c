@@ -109,7 +109,6 @@ static const struct refusal refusals[] = {
         {"The walk towards an office went on for as many stages as there are places, less one, and another was due.", NEVER_HERE},
     [ATLAS_WALK_NO_BLOCK] = {"On the walk towards an office, no block covers the office's place.", NEVER_HERE},
     [ATLAS_WALK_EMPTY] = {"On the walk towards an office, no length fits between the two ends.", NEVER_HERE},
-    [ATLAS_WALK_TOO_FAR] = {"A length grew past 1,099,511,627,776 furlongs.", NEVER_HERE},
 };
 
 /* Room for so many bytes, or false where there is none left. No bytes need no room: NULL goes with length 0. */

@@ -1,6 +1,6 @@
 /* The post-road atlas for C and C++: a sheet is checked, and the k offices nearest by post road from a place of it are listed, or the
-   question is refused by a number. What is said here of numbers and of bytes is proved of both functions (docs/CONTRACTS.md), but for the
-   remark at 19; the stack is measured.
+   question is refused by a number. What is said here of numbers and of bytes is proved of both functions (docs/CONTRACTS.md);
+   the stack is measured.
 
    ./library proves and builds libatlas.a and puts it beside this file. It needs x86-64 with the calling
    convention of Linux (System V), and the C library, and nothing else:
@@ -20,7 +20,7 @@
    number, and nothing is taken to have been checked before. What is asked of the caller stands under LENDING and ATLAS_STACK_BYTES.
 
    But a question does not check that the sheet tells the truth. Where answers are to be relied on, ask only sheets that atlas_check
-   accepted: there each answer lists the nearest offices, and 16 to 19 never come.
+   accepted: there each answer lists the nearest offices, and 16 to 18 never come.
 
    LENDING. A slice is a pointer and its length in bytes, all of which can be read, and written where it is not the sheet. No slice that
    is written may overlap another slice of the same call, and nothing else may write a slice, the sheet included, until the call returns
@@ -94,7 +94,6 @@
 #define ATLAS_WALK_TOO_LONG 16U   /* N - 1 refinements already made for this office and another is due */
 #define ATLAS_WALK_NO_BLOCK 17U   /* no block covers the place sought */
 #define ATLAS_WALK_EMPTY 18U      /* the interval or overlap is empty */
-#define ATLAS_WALK_TOO_FAR 19U    /* a walked length or an end above 2^40; no sheet can give it */
 
 #if defined(__cplusplus) || (defined(__STDC_VERSION__) && __STDC_VERSION__ >= 199901L)
 #define ATLAS_FUNCTION static inline
@@ -121,7 +120,7 @@ unsigned int atlas_check(const unsigned char *sheet, size_t sheet_bytes, unsigne
 
 /* Lists the k offices nearest by road from place q, nearest first and at equal roads the lower number first (on an accepted sheet; on
    any other, as its blocks have it): the number, 0 where they are listed. In order: the layout (1 to 6), 7, 8, 9, then the walk: a first
-   interval, office by office, is tested for 17, 19, 18, a refinement for 16, 17, 19, 18.
+   interval, office by office, is tested for 17, 18, a refinement for 16, 17, 18.
 
    answer      at least ATLAS_ANSWER_BYTES(k) bytes; else 9
    working     at least ATLAS_WORKING_BYTES(M) bytes; else 9
@@ -130,7 +129,7 @@ unsigned int atlas_check(const unsigned char *sheet, size_t sheet_bytes, unsigne
    Afterwards   0               answer has four 64-bit words for each listed office, as named below; the first
                                 ATLAS_WORKING_BYTES(M) bytes of working are 0
                 1 to 9          answer and working are untouched
-                16 to 19        their first ATLAS_ANSWER_BYTES(k) and ATLAS_WORKING_BYTES(M) bytes are 0
+                16 to 18        their first ATLAS_ANSWER_BYTES(k) and ATLAS_WORKING_BYTES(M) bytes are 0
                 any number      counts has two 64-bit words, as named below, both 0 after a refusal; a counts slice that is too
                                 short is untouched
    Later bytes of the three are never touched. */
@@ -172,8 +171,8 @@ ATLAS_FUNCTION unsigned int atlas_word32(const unsigned char *bytes, size_t i)
     return word[0] + 256U * word[1] + 65536U * word[2] + 16777216U * word[3];
 }
 
-/* 64-bit word i of answer or counts. C89 has no whole number of 64 bits, but no word there is above 2^40, and a double has every whole
-   number up to 2^53 exactly. */
+/* 64-bit word i of answer or counts. C89 has no whole number of 64 bits, but every word that a call writes there is below
+   100,000,000,000, whatever the sheet, and a double has every whole number up to 2^53 exactly. */
 ATLAS_FUNCTION double atlas_word64(const unsigned char *bytes, size_t i)
 {
     return atlas_word32(bytes, 2 * i + 1) * 4294967296.0 + atlas_word32(bytes, 2 * i);

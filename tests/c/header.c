@@ -22,9 +22,9 @@ static void numbers(void)
         ATLAS_ACCEPTED,      ATLAS_CUT_SHORT,     ATLAS_BAD_COUNT,    ATLAS_BAD_PLACES,      ATLAS_BAD_STAGES,
         ATLAS_BAD_BLOCKS,    ATLAS_BAD_OFFICES,   ATLAS_BAD_Q,        ATLAS_BAD_K,           ATLAS_SHORT_SLICES,
         ATLAS_SHORT_DISTANCES, ATLAS_UNREACHED,   ATLAS_IN_NO_BLOCK,  ATLAS_WRONG_COLOUR,    ATLAS_UNTRUE_RATIO,
-        ATLAS_IDLE_BLOCK,    ATLAS_WALK_TOO_LONG, ATLAS_WALK_NO_BLOCK, ATLAS_WALK_EMPTY,     ATLAS_WALK_TOO_FAR};
+        ATLAS_IDLE_BLOCK,    ATLAS_WALK_TOO_LONG, ATLAS_WALK_NO_BLOCK, ATLAS_WALK_EMPTY};
     unsigned int number;
-    for (number = 0; number < 20; number++)
+    for (number = 0; number < sizeof named / sizeof *named; number++)
         expect(named[number] == number, "each number stands under its name");
     expect(ATLAS_LISTED == 0, "0 is also a list");
 }

@@ -8,7 +8,7 @@ use Rattle.paper.specs.Map.{Map}
 use Rattle.paper.specs.Quest.{Quest}
 use Rattle.paper.specs.Trail.{Trail, refine}
 use Rattle.paper.specs.Listing.{Slot, State, refined, step}
-use Rattle.quadtree.specs.Sane.{Sane}
+use Rattle.paper.specs.Bounds.{Sane}
 use Rattle.quadtree.specs.Walks.{trailOf}
 use Rattle.nearest.specs.declared.tree.Lead.{Lead}
 use Rattle.nearest.specs.Working.{Shown}

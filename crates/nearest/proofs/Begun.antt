@@ -13,15 +13,15 @@ use Rattle.paper.specs.Map.{Map}
 use Rattle.paper.specs.Quest.{Quest}
 use Rattle.paper.specs.Trail.{Trail, start}
 use Rattle.paper.specs.Listing.{Slot, noSlot, at, starts, begin, run, enough, listing}
+use Rattle.paper.specs.Bounds.{Sane}
 use Rattle.paper.proofs.Count.{below-suc, below-all}
 use Rattle.paper.proofs.Test.{true-false}
 use Rattle.paper.proofs.LaidOut.{Grounded}
 use Rattle.nearest.specs.Working.{treeAt, key, Side, Stored, Held, Shown, Beyond}
-use Rattle.quadtree.specs.Sane.{Sane}
 use Rattle.paper.proofs.Holds.{given}
 use Rattle.paper.proofs.Walk.{Walk, walk-start}
+use Rattle.paper.proofs.Bounds.{start-sane}
 use Rattle.nearest.specs.Going.{StartedNow, StartedAll}
-use Rattle.quadtree.proofs.Sizes.{start-sane}
 use Rattle.nearest.proofs.Hold.{side-same, stored-side, stored-key}
 
 module _ (m : Map) (x : Quest) where

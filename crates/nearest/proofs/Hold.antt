@@ -13,10 +13,10 @@ use Rattle.mintree.proofs.Laws.{word-new, word-other}
 use Rattle.paper.specs.Sizes.{slotWords}
 use Rattle.paper.specs.Trail.{Trail}
 use Rattle.paper.specs.Listing.{Slot, at, retired}
+use Rattle.paper.specs.Bounds.{Sane}
 use Rattle.paper.proofs.Test.{true-false}
 use Rattle.paper.proofs.Slots.{set-all}
 use Rattle.nearest.specs.Working.{sideWords, treeAt, gone, keyIn, Side, Stored, Held, Shown, Beyond}
-use Rattle.quadtree.specs.Sane.{Sane}
 
 -- the words of the offices beside the tree are kept
 pub side-same : {w w′ : List ℕ} {j : ℕ} {t : Trail} → ((k : ℕ) → k < sideWords * j + sideWords → sideWords * j ≤ k → getD w′ k 0 ≡ getD w k 0) → Side w j t → Side w′ j t

@@ -10,10 +10,10 @@ use Rattle.mintree.specs.Mintree.{Room, Played, Same}
 use Rattle.mintree.proofs.Laws.{word-new, word-other}
 use Rattle.paper.specs.Trail.{Trail}
 use Rattle.paper.specs.Listing.{Slot, at, retired, refined}
+use Rattle.paper.specs.Bounds.{Sane}
 use Rattle.paper.proofs.Test.{true-false}
 use Rattle.paper.proofs.Slots.{set-all}
 use Rattle.nearest.specs.Working.{treeAt, key, gone, keyIn, Stored, Held, Shown}
-use Rattle.quadtree.specs.Sane.{Sane}
 use Rattle.nearest.proofs.Hold.{stored-side, stored-key, changed-side, changed-beyond}
 
 -- office i is put back with the trail t

@@ -12,9 +12,9 @@ use Rattle.mintree.specs.Mintree.{Played, Least, Same}
 use Rattle.paper.specs.Sizes.{mostOffices, endMost}
 use Rattle.paper.specs.Trail.{Trail}
 use Rattle.paper.specs.Listing.{Slot, at, lowOf, retired}
+use Rattle.paper.specs.Bounds.{Sane}
 use Rattle.nearest.specs.declared.tree.Lead.{Lead}
 use Rattle.nearest.specs.Working.{sideWords, treeAt, key, gone, Side, Shown, Beyond}
-use Rattle.quadtree.specs.Sane.{Sane}
 use Rattle.nearest.specs.Going.{Waiting, Led}
 use Rattle.quadtree.specs.Walks.{trailOf}
 use Rattle.nearest.proofs.Lead.{leads-one, leads, lead-waits, lead-number, lead-low, clear-by}

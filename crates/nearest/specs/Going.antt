@@ -12,8 +12,8 @@ use Rattle.paper.specs.Quest.{Quest}
 use Rattle.paper.specs.Trail.{Trail, start}
 use Rattle.paper.specs.Listing.{Slot, Line, State, at, leader, clear, retired, refined, listed, walkedOn, step, starts}
 use Rattle.paper.specs.Reply.{lineOut, linesOut}
+use Rattle.paper.specs.Bounds.{Sane}
 use Rattle.nearest.specs.Working.{treeAt, key, Stored, Shown, Beyond}
-use Rattle.quadtree.specs.Sane.{Sane}
 use Rattle.quadtree.specs.Walks.{trailOf}
 use Rattle.nearest.specs.declared.tree.Lead.{Lead}
 use Rattle.nearest.specs.declared.walk.Moved.{Moved}

@@ -9,7 +9,7 @@ use Rattle.paper.specs.Sizes.{mostOffices, slotWords}
 use Rattle.paper.specs.Trail.{Trail}
 use Rattle.paper.specs.Listing.{Slot, at}
 use Rattle.paper.specs.Slice.{Untouched}
-use Rattle.quadtree.specs.Sane.{Sane}
+use Rattle.paper.specs.Bounds.{Sane}
 
 -- the words of an office beside the tree: via, walked length, high end, stages
 abbrev pub sideWords : ℕ

@@ -13,8 +13,8 @@ ghost use mathlib.Core.List.{List};
 ghost use Prim.Native.Nat.{ℕ, _*_, _<_};
 ghost use Rattle.paper.specs.Sizes.{slotWords};
 ghost use Rattle.paper.specs.Listing.{Slot, retired, refined};
+ghost use Rattle.paper.specs.Bounds.{Sane};
 ghost use Rattle.nearest.specs.Working.{Shown, Beyond};
-ghost use Rattle.quadtree.specs.Sane.{Sane};
 ghost use Rattle.quadtree.specs.Walks.{trailOf};
 ghost use Rattle.nearest.specs.Going.{SomeWaits, Led, OneOut};
 

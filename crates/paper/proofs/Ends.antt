@@ -1,19 +1,20 @@
 -- The ends that a map's blocks give are below 100,000,000,000; those of a true map hold the road distance.
-use Prim.Native.Nat.{ℕ, _*_, _^_, _≤_, _<_}
+use Prim.Native.Nat.{ℕ, _^_, _≤_, _<_}
 use native.Mathlib.Omega.{arith}
 use native.Mathlib.Nat.{mul-le-mul}
 use mathlib.Core.Path.{_≡_, refl}
 use mathlib.Core.Option.{Option, some, none}
 use lib.Dec.{eqb}
 use borrow.Author.Tests.{eqb-true, eqb-false}
-use Rattle.paper.specs.Sizes.{endMost, crowMost}
+use Rattle.paper.specs.Sizes.{crowMost}
 use Rattle.paper.specs.Map.{Map}
 use Rattle.paper.specs.Crow.{crow}
 use Rattle.paper.specs.Block.{blockOf}
 use Rattle.paper.specs.Road.{arrived, IsD}
 use Rattle.paper.specs.Truth.{Truth, Told}
-use Rattle.paper.proofs.LaidOut.{Grounded, LaidOut}
+use Rattle.paper.proofs.LaidOut.{Grounded}
 use Rattle.paper.specs.Trail.{Ends, between, endsBy}
+use Rattle.paper.specs.Bounds.{Bounded}
 use Rattle.paper.proofs.Holds.{On, Holds, on-if}
 use Rattle.paper.proofs.Block.{BlockOf, block-of}
 use Rattle.paper.proofs.Crow.{crow-le}
@@ -21,11 +22,6 @@ use Rattle.paper.proofs.Crow.{crow-le}
 -- of a refusal nothing is asked
 abbrev pub Any : ℕ → Type 0
 Any n = Unit {0}
-
--- both ends are below the bound
-pub record Bounded (e : Ends) : Type 0 where
-  pub low : e .low < endMost
-  pub high : e .high < endMost
 
 module _ {m : Map} (G : Grounded m) (u v : ℕ) (hu : u < m .places) (hv : v < m .places) where
   ends-bounded : (r : Option ℕ) → blockOf m u v ≡ r → On Any Bounded (endsBy m u v r)
@@ -49,26 +45,20 @@ pub record Right (u v d : ℕ) (e : Ends) : Type 0 where
   pub low : e .low ≤ d
   pub high : d ≤ e .high
   pub home : u ≡ v → e .low ≡ e .high
-  pub small : e .high < endMost
 
-module _ {m : Map} (L : LaidOut m) (T : Truth m) where
+module _ {m : Map} (T : Truth m) where
   told-right : (u v d : ℕ) → u < m .places → v < m .places → IsD m u v d → (u ≡ v → ⊥) → Holds (Right u v d) (endsBy m u v (blockOf m u v))
   told-right u v d hu hv D ne =
       let w : Told m u v = T .told u v hu hv ne in
-      let b : ℕ = w .block in
-      let c : ℕ = crow m u v in
-      let r : m .high b ≤ 2 ^ 32 = omega (arith, L .ground .ratios b (block-of m u v b (w .covered) .under)) in
-      let top : m .high b * c ≤ 2 ^ 32 * crowMost = mul-le-mul r (crow-le (L .ground) u v hu hv) in
       rw (w .covered) (record {
         low = omega (arith, w .tells .low d D);
         high = omega (arith, w .tells .high d D);
         home = λ e. absurd (ne e);
-        small = omega arith;
       })
 
   pub between-right : (u v d : ℕ) → u < m .places → v < m .places → IsD m u v d → Holds (Right u v d) (between m u v)
   unfolding between
   between-right u v d hu hv D =
       on-if (λ n. ⊥) (Right u v d) (eqb u v) _ _
-      (λ e. let z : d ≡ 0 = at-home (rw (eqb-true u v e) at D) in record { low = omega arith; high = omega arith; home = λ e′. refl; small = omega arith })
+      (λ e. let z : d ≡ 0 = at-home (rw (eqb-true u v e) at D) in record { low = omega arith; high = omega arith; home = λ e′. refl })
       (λ e. told-right u v d hu hv D (eqb-false u v e))

@@ -3,7 +3,7 @@ use Prim.Native.Nat.{ℕ, _+_, _-_, _*_, _≤_, _<_}
 use native.Mathlib.Omega.{arith}
 use native.Mathlib.Decide.{ℕ-discrete, decLe}
 use mathlib.Core.Path.{_≡_}
-use Rattle.paper.specs.Sizes.{mostFurlongs}
+use Rattle.paper.specs.Sizes.{mostFurlongs, roadMost}
 use Rattle.paper.specs.Sum.{sum}
 use Rattle.paper.specs.Map.{Map}
 use Rattle.paper.specs.Road.{Road, arrived, along, IsD}
@@ -66,5 +66,5 @@ module _ {m : Map} (L : LaidOut m) (v : ℕ) where
       omega (arith, P .1 .sums, fewer, sum-ones (m .places))
 
   -- on any sheet
-  pub distance-far : {u d : ℕ} → u < m .places → IsD m u v d → d ≤ 67042305
+  pub distance-far : {u d : ℕ} → u < m .places → IsD m u v d → d ≤ roadMost
   distance-far hu D = omega (arith, distance-most hu D, L .ground .places)

@@ -20,6 +20,8 @@ pub mod Inv
 pub mod Moves
 pub mod Answer
 pub mod Laid
+pub mod Bounds
+pub mod Largest
 pub mod Ground
 pub mod Cleared
 pub mod Verdict

@@ -19,13 +19,16 @@ use Rattle.paper.specs.Layout.{Bytes, layout, officesHold}
 use Rattle.paper.specs.Verdict.{AcceptedOn, Accepted}
 use Rattle.paper.specs.Listing.{Line, State, lineAt, listing}
 use Rattle.paper.specs.Answer.{Asked}
-use Rattle.paper.specs.Reply.{Reply, invalid, ValidOn, Valid, lineOut, linesOut, walkOut, replyBy, replyOn, reply, endOf, endedOn, AnsweredOn, Answered}
+use Rattle.paper.specs.Bounds.{ListedWithin}
+use Rattle.paper.specs.Reply.{Reply, invalid, ValidOn, Valid, lineOut, linesOut, walkOut, replyBy, replyOn, reply, endOf, endedOn, questOf, AnsweredOn, Answered}
 use Rattle.paper.proofs.Holds.{On}
 use Rattle.paper.proofs.Test.{both-left, both-right, due-true, or-left, or-right, or-zero, or-most, due-most}
 use Rattle.paper.proofs.Laid.{passed, laid-out, offices-stand}
 use Rattle.paper.proofs.Cleared.{cleared-size}
 use Rattle.paper.proofs.Walk.{Walk}
 use Rattle.paper.proofs.Fair.{Ended, listing-ends}
+use Rattle.paper.proofs.Ends.{Any}
+use Rattle.paper.proofs.Bounds.{listing-within}
 use Rattle.paper.proofs.Answer.{seen, answered}
 
 -- none of 7, 8 and 9 is due, in plain sentences
@@ -98,7 +101,7 @@ module _ (laid : ℕ) (m : Map) (o : Offices) (q k : ℕ) (answer working : List
         thrifty = record { total = rw end refl; thrifty = λ s. rw end (near s .1) };
       })
 
-  -- on an accepted map the walk's refusals, 16 to 19, are never given
+  -- on an accepted map the walk's refusals, 16 to 18, are never given
   pub on-early : LaidOut m → officesHold m o ≡ true → AcceptedOn laid m → replyOn laid m o q k answer working .number ≤ 9
   unfolding replyOn
   on-early L stand A = go (invalid m o q k answer working) refl
@@ -131,6 +134,12 @@ module _ (s : List ℕ) (q k : ℕ) (answer working : List ℕ) (bytes : Bytes s
   pub reply-early : reply s q k answer working .number ≤ 9
   unfolding reply
   reply-early = on-early (layout s) (mapOf s) (officesOf s) q k answer working (laid-out s bytes (A .laid)) (passed s (A .laid) .offices) A
+
+-- of any sheet that the layout rules pass: every trail, line and total of a valid question is within its bounds
+pub sheet-listed : (s : List ℕ) (q k : ℕ) (answer working : List ℕ) → Bytes s → layout s ≡ 0 → Valid s q k answer working
+    → On Any (ListedWithin (mapOf s) (questOf s q)) (listing (mapOf s) (questOf s q) k)
+sheet-listed s q k answer working bytes h g =
+    listing-within (laid-out s bytes h) (asked (layout s) (mapOf s) (officesOf s) q k answer working (passed s h .offices) g)
 
 -- the list takes four words for each line, and they are the line's
 pub lines-size : (ls : List Line) → length (linesOut ls) ≡ lineWords * length ls

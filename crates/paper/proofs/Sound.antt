@@ -1,20 +1,17 @@
--- A trail that tells the truth, from the start on: 16, 17, 18 and 19 are never given.
+-- A trail that tells the truth, from the start on: 16, 17 and 18 are never given.
 use Prim.Native.Nat.{ℕ, _+_, _≤_, _<_}
 use native.Mathlib.Omega.{arith}
-use native.Mathlib.Nat.{le-trans}
 use mathlib.Core.Path.{_≡_}
-use lib.Dec.{leb, ltb}
+use lib.Dec.{ltb}
 use borrow.Author.Tests.{le-leb, lt-ltb}
-use Rattle.paper.specs.Sizes.{endMost, walkLimit}
 use Rattle.paper.specs.Map.{Map}
 use Rattle.paper.specs.Stage.{stageOf}
 use Rattle.paper.specs.Road.{IsD}
 use Rattle.paper.specs.Truth.{Truth}
 use Rattle.paper.proofs.LaidOut.{LaidOut}
 use Rattle.paper.specs.Named.{Named, home, nextBy}
-use Rattle.paper.specs.Trail.{Trail, between, start, refine, tested, small, fresh, onward}
+use Rattle.paper.specs.Trail.{Trail, between, start, refine, ordered, tested, fresh, onward}
 use Rattle.paper.proofs.Holds.{Holds, on-then, on-true}
-use Rattle.paper.proofs.Test.{both-true}
 use Rattle.paper.proofs.Ends.{Right, between-right}
 use Rattle.paper.proofs.Named.{Leaving, leaving, named-next}
 
@@ -26,31 +23,26 @@ pub record Sound (m : Map) (v d n : ℕ) (t : Trail) : Type 0 where
   pub road : t .walked + ahead ≡ d
   pub low : t .low ≤ d
   pub high : d ≤ t .high
-  pub small : t .high < endMost
   pub home : t .via ≡ v → t .low ≡ t .high
   pub left : ℕ
   pub named : Named m v (t .via) left
   pub count : t .stages + left ≡ n
 
-holds-tested : (P : Trail → Type 0) (t : Trail) → t .walked ≤ walkLimit → t .low ≤ t .high → t .high ≤ walkLimit → P t → Holds P (tested t)
-holds-tested P t a b c p =
-    on-true (λ n. ⊥) P (small t) _ _
-    (both-true (leb (t .walked) walkLimit) _ (le-leb _ _ a) (both-true (leb (t .low) walkLimit) (leb (t .high) walkLimit) (le-leb _ _ (le-trans b c)) (le-leb _ _ c)))
-    (on-true (λ n. ⊥) P (leb (t .low) (t .high)) _ _ (le-leb _ _ b) p)
+holds-tested : (P : Trail → Type 0) (t : Trail) → t .low ≤ t .high → P t → Holds P (tested t)
+holds-tested P t o p = on-true (λ n. ⊥) P (ordered t) _ _ (le-leb _ _ o) p
 
 module _ {m : Map} (L : LaidOut m) (T : Truth m) where
   pub start-sound : (u v d n : ℕ) → u < m .places → v < m .places → IsD m u v d → Named m v u n → Holds (Sound m v d n) (start m u v)
   unfolding start
   start-sound u v d n hu hv D r =
-      on-then (λ n. ⊥) (Right u v d) (Sound m v d n) (between m u v) _ (between-right L T u v d hu hv D)
-      (λ e h. holds-tested (Sound m v d n) (fresh u e) (omega arith) (omega arith) (omega (arith, h .small)) (record {
+      on-then (λ n. ⊥) (Right u v d) (Sound m v d n) (between m u v) _ (between-right T u v d hu hv D)
+      (λ e h. holds-tested (Sound m v d n) (fresh u e) (omega arith) (record {
         placed = hu;
         ahead = d;
         isD = D;
         road = omega arith;
         low = h .low;
         high = h .high;
-        small = h .small;
         home = h .home;
         left = n;
         named = r;
@@ -65,15 +57,14 @@ module _ {m : Map} (L : LaidOut m) (T : Truth m) where
       let (l, e, r) = named-next (w .block) ne (w .covered) (S .named) in
       let x : ℕ = nextBy m (t .via) (w .block) in
       on-true (λ n. ⊥) (Sound m v d n) (ltb (t .stages + 1) (m .places)) _ _ (lt-ltb (t .stages + 1) (m .places) (omega (arith, S .count)))
-      (rw (w .covered) (on-then (λ n. ⊥) (Right x v (w .ahead)) (Sound m v d n) (between m x v) _ (between-right L T x v (w .ahead) (w .placed) hv (w .isD))
-      (λ f h. holds-tested (Sound m v d n) (onward m (stageOf m (t .via) (m .colour (w .block))) t f) (omega arith) (omega arith) (omega arith) (record {
+      (rw (w .covered) (on-then (λ n. ⊥) (Right x v (w .ahead)) (Sound m v d n) (between m x v) _ (between-right T x v (w .ahead) (w .placed) hv (w .isD))
+      (λ f h. holds-tested (Sound m v d n) (onward m (stageOf m (t .via) (m .colour (w .block))) t f) (omega arith) (record {
         placed = w .placed;
         ahead = w .ahead;
         isD = w .isD;
         road = omega arith;
         low = omega arith;
         high = omega arith;
-        small = omega arith;
         home = λ q. omega (arith, h .home q);
         left = l;
         named = r;

@@ -9,23 +9,21 @@ use Rattle.paper.specs.Test.{either, due, orElse}
 use Rattle.paper.specs.Map.{Map}
 use Rattle.paper.specs.Stage.{stageOf}
 use Rattle.paper.specs.Block.{blockOf}
-use Rattle.paper.specs.Trail.{Ends, endsBy, between, Trail, small, tested, fresh, start, onward, onwardBy, refine}
-use Rattle.paper.specs.Tested.{refusalOf, found, covered, endsIn, stageBy, ordered, startDue, refineDue}
+use Rattle.paper.specs.Trail.{Ends, endsBy, between, Trail, ordered, tested, fresh, start, onward, onwardBy, refine}
+use Rattle.paper.specs.Tested.{refusalOf, found, covered, endsIn, stageBy, startDue, refineDue}
 
--- the last two tests: 19, then 18
-tested-due : (t : Trail) → refusalOf (tested t) ≡ orElse (due (small t) 19) (due (ordered t) 18)
-tested-due t = go (small t) (ordered t)
+-- the last test: 18
+tested-due : (t : Trail) → refusalOf (tested t) ≡ due (ordered t) 18
+tested-due t = go (ordered t)
   where
-    go : (s o : Bool) → refusalOf (elim s as (λ _. Served Trail) [ false ↦ refused 19 | true ↦ elim o as (λ _. Served Trail) [ false ↦ refused 18 | true ↦ served t ] ])
-        ≡ orElse (due s 19) (due o 18)
-    go false o = refl
-    go true false = refl
-    go true true = refl
+    go : (o : Bool) → refusalOf (elim o as (λ _. Served Trail) [ false ↦ refused 18 | true ↦ served t ]) ≡ due o 18
+    go false = refl
+    go true = refl
 
 -- 17 where no block covers the place sought, and else what is due for the trail that the ends make
 between-due : (m : Map) (u v : ℕ) (f : Ends → Trail)
     → refusalOf (andThen (between m u v) (λ e. tested (f e)))
-    ≡ orElse (due (covered m u v) 17) (orElse (due (small (f (endsIn (between m u v)))) 19) (due (ordered (f (endsIn (between m u v)))) 18))
+    ≡ orElse (due (covered m u v) 17) (due (ordered (f (endsIn (between m u v)))) 18)
 unfolding between covered
 between-due m u v f = go (eqb u v) (blockOf m u v)
   where
@@ -33,17 +31,17 @@ between-due m u v f = go (eqb u v) (blockOf m u v)
     by b r = elim b as (λ _. Served Ends) [ true ↦ served (record { low = 0; high = 0 }) | false ↦ endsBy m u v r ]
 
     go : (b : Bool) (r : Option ℕ) → refusalOf (andThen (by b r) (λ e. tested (f e)))
-        ≡ orElse (due (either b (found r)) 17) (orElse (due (small (f (endsIn (by b r)))) 19) (due (ordered (f (endsIn (by b r)))) 18))
+        ≡ orElse (due (either b (found r)) 17) (due (ordered (f (endsIn (by b r)))) 18)
     go true r = tested-due (f (record { low = 0; high = 0 }))
     go false none = refl
     go false (some b) = tested-due (f (endsIn (endsBy m u v (some b))))
 
--- a first interval is tested for 17, 19, 18
+-- a first interval is tested for 17, 18
 pub start-tests : (m : Map) (u v : ℕ) → refusalOf (start m u v) ≡ startDue m u v
 unfolding start startDue
 start-tests m u v = between-due m u v (fresh u)
 
--- a refinement is tested for 16, 17 at the old via, 17 at the new, 19, 18
+-- a refinement is tested for 16, 17 at the old via, 17 at the new, 18
 pub refine-tests : (m : Map) (v : ℕ) (t : Trail) → refusalOf (refine m v t) ≡ refineDue m v t
 unfolding refine refineDue
 refine-tests m v t = go (ltb (t .stages + 1) (m .places)) (blockOf m (t .via) v)
@@ -52,7 +50,7 @@ refine-tests m v t = go (ltb (t .stages + 1) (m .places)) (blockOf m (t .via) v)
     next r = let i : ℕ = stageBy m (t .via) r in onward m i t (endsIn (between m (m .head i) v))
 
     go : (b : Bool) (r : Option ℕ) → refusalOf (elim b as (λ _. Served Trail) [ false ↦ refused 16 | true ↦ onwardBy m v t r ])
-        ≡ orElse (due b 16) (orElse (due (found r) 17) (orElse (due (covered m (m .head (stageBy m (t .via) r)) v) 17) (orElse (due (small (next r)) 19) (due (ordered (next r)) 18))))
+        ≡ orElse (due b 16) (orElse (due (found r) 17) (orElse (due (covered m (m .head (stageBy m (t .via) r)) v) 17) (due (ordered (next r)) 18)))
     go false r = refl
     go true none = refl
     go true (some b) = let i : ℕ = stageOf m (t .via) (m .colour b) in between-due m (m .head i) v (onward m i t)

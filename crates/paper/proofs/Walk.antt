@@ -1,21 +1,21 @@
--- Of any map: a walk refuses with 16 to 19, and a refinement never widens.
+-- Of any map: a walk refuses with 16 to 18, and a refinement never widens.
 use Prim.Native.Nat.{ℕ, _+_, _≤_, _<_}
 use native.Mathlib.Omega.{arith}
 use mathlib.Core.Path.{_≡_, refl}
 use mathlib.Core.Option.{Option, some, none}
-use lib.Dec.{leb, ltb, eqb}
+use lib.Dec.{ltb, eqb}
 use borrow.Author.Tests.{ltb-true}
 use Rattle.paper.specs.Served.{served}
 use Rattle.paper.specs.Map.{Map}
 use Rattle.paper.specs.Stage.{stageOf}
 use Rattle.paper.specs.Block.{blockOf}
-use Rattle.paper.specs.Trail.{Trail, between, endsBy, start, refine, tested, small, fresh, onward, onwardBy}
+use Rattle.paper.specs.Trail.{Trail, between, endsBy, start, refine, ordered, tested, fresh, onward, onwardBy}
 use Rattle.paper.proofs.Holds.{On, on-if, on-then, given}
 
 -- a refusal of the walk
 pub record Walk (n : ℕ) : Type 0 where
   pub least : 16 ≤ n
-  pub most : n ≤ 19
+  pub most : n ≤ 18
 
 -- t′ is t refined once
 pub record Finer (m : Map) (t t′ : Trail) : Type 0 where
@@ -25,8 +25,7 @@ pub record Finer (m : Map) (t t′ : Trail) : Type 0 where
   pub within : t′ .stages < m .places
 
 walk-tested : (P : Trail → Type 0) (t : Trail) → P t → On Walk P (tested t)
-walk-tested P t p =
-    on-if Walk P (small t) _ _ (λ e. on-if Walk P (leb (t .low) (t .high)) _ _ (λ e′. p) (λ e′. omega arith)) (λ e. omega arith)
+walk-tested P t p = on-if Walk P (ordered t) _ _ (λ e. p) (λ e. omega arith)
 
 walk-between : (m : Map) (u v : ℕ) → On Walk (λ e. Unit {0}) (between m u v)
 unfolding between

@@ -20,6 +20,7 @@ pub mod Trail
 pub mod Tested
 pub mod Quest
 pub mod Listing
+pub mod Bounds
 pub mod Answer
 pub mod Reply
 pub mod Marked

@@ -1,14 +1,14 @@
--- The walk's tests in the paper's order: a first interval for 17, 19, 18; a refinement for 16, 17 at the old via, 17 at the new, 19, 18.
+-- The walk's tests in the paper's order: a first interval for 17, 18; a refinement for 16, 17 at the old via, 17 at the new, 18.
 use Prim.Native.Nat.{ℕ, _+_}
 use mathlib.Core.Bool.{Bool, true, false}
 use mathlib.Core.Option.{Option, some, none}
-use lib.Dec.{leb, ltb, eqb}
+use lib.Dec.{ltb, eqb}
 use Rattle.paper.specs.Served.{Served, refused, served}
 use Rattle.paper.specs.Test.{either, due, orElse}
 use Rattle.paper.specs.Map.{Map}
 use Rattle.paper.specs.Stage.{stageOf}
 use Rattle.paper.specs.Block.{blockOf}
-use Rattle.paper.specs.Trail.{Ends, between, Trail, small, fresh, onward}
+use Rattle.paper.specs.Trail.{Ends, between, Trail, ordered, fresh, onward}
 
 -- the number that is given, 0 where what was asked for is served
 abbrev pub refusalOf : Served Trail → ℕ
@@ -34,17 +34,14 @@ abbrev pub stageBy : Map → ℕ → Option ℕ → ℕ
 stageBy m u none = 0
 stageBy m u (some b) = stageOf m u (m .colour b)
 
-abbrev pub ordered : Trail → Bool
-ordered t = leb (t .low) (t .high)
-
--- the first of 17, 19 and 18 that is due for the first interval from u to v
+-- the first of 17 and 18 that is due for the first interval from u to v
 unfoldable pub startDue : Map → ℕ → ℕ → ℕ
 unfolding covered between
 startDue m u v =
     let t : Trail = fresh u (endsIn (between m u v)) in
-    orElse (due (covered m u v) 17) (orElse (due (small t) 19) (due (ordered t) 18))
+    orElse (due (covered m u v) 17) (due (ordered t) 18)
 
--- the first of 16, 17, 17, 19 and 18 that is due for a refinement of t towards v
+-- the first of 16, 17, 17 and 18 that is due for a refinement of t towards v
 unfoldable pub refineDue : Map → ℕ → Trail → ℕ
 unfolding blockOf stageOf covered between
 refineDue m v t =
@@ -52,4 +49,4 @@ refineDue m v t =
     let t′ : Trail = onward m i t (endsIn (between m (m .head i) v)) in
     orElse (due (ltb (t .stages + 1) (m .places)) 16)
     (orElse (due (found (blockOf m (t .via) v)) 17)
-    (orElse (due (covered m (m .head i) v) 17) (orElse (due (small t′) 19) (due (ordered t′) 18))))
+    (orElse (due (covered m (m .head i) v) 17) (due (ordered t′) 18)))

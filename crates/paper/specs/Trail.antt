@@ -4,8 +4,7 @@ use mathlib.Core.Bool.{Bool, true, false}
 use mathlib.Core.Option.{Option, some, none}
 use lib.Dec.{leb, ltb, eqb}
 use Rattle.paper.specs.Served.{Served, refused, served, andThen}
-use Rattle.paper.specs.Sizes.{ratioUnit, walkLimit}
-use Rattle.paper.specs.Test.{both}
+use Rattle.paper.specs.Sizes.{ratioUnit}
 use Rattle.paper.specs.Map.{Map}
 use Rattle.paper.specs.Crow.{crow}
 use Rattle.paper.specs.Stage.{stageOf}
@@ -32,16 +31,12 @@ pub record Trail : Type 0 where
   pub high : ℕ
   pub stages : ℕ
 
-abbrev pub small : Trail → Bool
-small t = both (leb (t .walked) (walkLimit)) (both (leb (t .low) (walkLimit)) (leb (t .high) (walkLimit)))
+abbrev pub ordered : Trail → Bool
+ordered t = leb (t .low) (t .high)
 
--- 19 where a number is too large, 18 where the interval is empty
+-- 18 where the interval is empty
 abbrev pub tested : Trail → Served Trail
-tested t =
-    elim (small t) [
-      | false ↦ refused 19
-      | true ↦ elim (leb (t .low) (t .high)) [ false ↦ refused 18 | true ↦ served t ]
-    ]
+tested t = elim (ordered t) [ false ↦ refused 18 | true ↦ served t ]
 
 abbrev pub fresh : ℕ → Ends → Trail
 fresh u e = record { via = u; walked = 0; low = e .low; high = e .high; stages = 0 }

@@ -49,9 +49,6 @@ pub const RATIO_UNIT: u64 = 1024;
 // Crow distances are in sixteenths of a cell.
 pub const CROW_UNIT: u64 = 16;
 
-// No walked length and no end is above it.
-pub const WALK_LIMIT: u64 = 1_099_511_627_776;
-
 // The program's input: q and k before the sheet, in bytes; and its limits, bytes of the sheet, places, offices.
 pub const ASKED_BYTES: usize = 2 * WORD_BYTES;
 

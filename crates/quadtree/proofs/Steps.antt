@@ -3,19 +3,17 @@ use Prim.Native.Nat.{ℕ, _+_, _≤_, _<_}
 use mathlib.Core.Path.{_≡_, refl, sym, ap, _∙_}
 use mathlib.Core.Bool.{Bool, true, false}
 use mathlib.Core.Option.{Option, some, none}
-use lib.Dec.{leb, ltb, eqb}
+use lib.Dec.{ltb, eqb}
 use borrow.Author.Tests.{eq-eqb, lt-ltb, le-ltb, le-leb, lt-leb, eqb-true}
-use Rattle.paper.specs.Sizes.{walkLimit}
 use Rattle.paper.specs.Served.{Served, refused, served}
 use Rattle.paper.specs.Map.{Map}
 use Rattle.paper.specs.Crow.{crow}
 use Rattle.paper.specs.Stage.{stageOf}
 use Rattle.paper.specs.Block.{blockOf}
-use Rattle.paper.specs.Trail.{Ends, Trail, between, endsBy, small, tested, fresh, start, onwardBy, refine}
+use Rattle.paper.specs.Trail.{Ends, Trail, between, endsBy, ordered, tested, fresh, start, onwardBy, refine}
 use Rattle.paper.specs.declared.Network.{Network}
 use Rattle.paper.specs.Ground.{SameGround}
 use Rattle.paper.proofs.Ground.{between-same}
-use Rattle.paper.proofs.Test.{both-true, both-false-left, both-false-right}
 use Rattle.quadtree.specs.declared.blocks.Cover.the-variants.{By, Nothing}
 use Rattle.quadtree.specs.declared.interval.Interval.{Interval}
 use Rattle.quadtree.specs.declared.interval.Interval.the-variants as interval
@@ -74,41 +72,16 @@ module _ (m : Map) (u v : ℕ) where
   pub between-none : (u ≡ v → ⊥) → Nothing ≡ coverOf (blockOf m u v) → interval.Refused 17 ≡ intervalOf (between m u v)
   between-none ne f = rw (between-other ne, cover-none (blockOf m u v) f)
 
--- the tests of a trail
-verdict : Bool → Bool → Trail → Served Trail
-verdict s o t = elim s [ false ↦ refused 19 | true ↦ elim o [ false ↦ refused 18 | true ↦ served t ] ]
-
+-- the test of a trail
 module _ (t : Trail) where
-  tested-as : (s o : Bool) → small t ≡ s → leb (t .low) (t .high) ≡ o → tested t ≡ verdict s o t
-  unfolding verdict
-  tested-as s o p q = let e : verdict (small t) (leb (t .low) (t .high)) t ≡ verdict s o t = rw (p, q) in e
+  tested-as : (o : Bool) → ordered t ≡ o → tested t ≡ elim o [ false ↦ refused 18 | true ↦ served t ]
+  tested-as o e = ap (λ (b : Bool). elim b [ false ↦ refused 18 | true ↦ served t ]) e
 
-  large : small t ≡ false → step.Refused 19 ≡ stepOf (tested t)
-  unfolding verdict
-  large p = ap stepOf (sym (tested-as false (leb (t .low) (t .high)) p refl))
+  pub tested-empty : t .high < t .low → step.Refused 18 ≡ stepOf (tested t)
+  tested-empty p = ap stepOf (sym (tested-as false (lt-leb _ _ p)))
 
-  pub tested-walked : walkLimit < t .walked → step.Refused 19 ≡ stepOf (tested t)
-  tested-walked p = large (both-false-left (leb (t .walked) walkLimit) _ (lt-leb _ _ p))
-
-  pub tested-low : walkLimit < t .low → step.Refused 19 ≡ stepOf (tested t)
-  tested-low p =
-      large (both-false-right (leb (t .walked) walkLimit) _ (both-false-left (leb (t .low) walkLimit) (leb (t .high) walkLimit) (lt-leb _ _ p)))
-
-  pub tested-high : walkLimit < t .high → step.Refused 19 ≡ stepOf (tested t)
-  tested-high p =
-      large (both-false-right (leb (t .walked) walkLimit) _ (both-false-right (leb (t .low) walkLimit) (leb (t .high) walkLimit) (lt-leb _ _ p)))
-
-  module _ (w : t .walked ≤ walkLimit) (l : t .low ≤ walkLimit) (h : t .high ≤ walkLimit) where
-    within : small t ≡ true
-    within = both-true _ _ (le-leb _ _ w) (both-true _ _ (le-leb _ _ l) (le-leb _ _ h))
-
-    pub tested-empty : t .high < t .low → step.Refused 18 ≡ stepOf (tested t)
-    unfolding verdict
-    tested-empty p = ap stepOf (sym (tested-as true false within (lt-leb _ _ p)))
-
-    pub tested-served : t .low ≤ t .high → step.To (trailBy t) ≡ stepOf (tested t)
-    unfolding verdict
-    tested-served p = ap stepOf (sym (tested-as true true within (le-leb _ _ p)))
+  pub tested-served : t .low ≤ t .high → step.To (trailBy t) ≡ stepOf (tested t)
+  tested-served p = ap stepOf (sym (tested-as true (le-leb _ _ p)))
 
 -- a start and a stage further, by the interval
 module _ (m : Map) (v : ℕ) where

@@ -1,3 +1,2 @@
-pub mod Sane
 pub mod Blocks
 pub mod Walks

@@ -10,17 +10,16 @@ use paper::Counts;
 use paper::Network;
 use paper::Trail;
 use paper::furlongs;
-use paper::sizes::WALK_LIMIT;
 ghost use mathlib.Core.Path.{_≡_};
 ghost use Prim.Native.Nat.{_+_, _*_, _≤_, _<_};
 ghost use lib.ListN.{length as lengthOf, getD};
-ghost use Rattle.paper.specs.Sizes.{mostPlaces, mostFurlongs, endMost};
+ghost use Rattle.paper.specs.Sizes.{mostPlaces, mostFurlongs};
 ghost use Rattle.paper.specs.Map.{Map};
 ghost use Rattle.paper.specs.Sheet.{mapOf};
 ghost use Rattle.paper.specs.Cell.{cell};
 ghost use Rattle.paper.specs.Trail.{start as startOf, refine as refineOf, tested as testedOf};
+ghost use Rattle.paper.specs.Bounds.{Sane, Summed};
 ghost use Rattle.sheet.specs.Ground.{Ground, Charted, Chart};
-ghost use Rattle.quadtree.specs.Sane.{Sane};
 ghost use Rattle.quadtree.specs.Walks.{trailOf, stepOf, ahead, walkedTo};
 
 // The trail that a start or a refinement comes to, or the number of the refusal.
@@ -29,19 +28,10 @@ pub enum Step {
     Refused(u32),
 }
 
-// 19 where a number is too large, 18 where the interval is empty.
+// 18 where the interval is empty.
 fn tested(t: Trail) -> Step
     ensures { λ r. ⌜ r ≡ stepOf (testedOf (trailOf t)) ⌝ }
 {
-    if WALK_LIMIT < t.walked.0 {
-        return Step::Refused(19);
-    }
-    if WALK_LIMIT < t.low.0 {
-        return Step::Refused(19);
-    }
-    if WALK_LIMIT < t.high.0 {
-        return Step::Refused(19);
-    }
     if t.high.0 < t.low.0 {
         return Step::Refused(18);
     }
@@ -78,7 +68,7 @@ pub fn stage_of(ground: &[u8], counts: Counts, first: &[u32], u: usize, b: usize
 
 // The trail after a stage of the length to the place `via`, whose interval is low to high: the overlap with the old one is kept.
 fn onward(t: Trail, via: usize, length: Network, low: Network, high: Network) -> Trail
-    requires { ⌜ (t .walked .0 ≤ t .stages * mostFurlongs) × (t .stages < mostPlaces) × (length .0 ≤ mostFurlongs) × (low .0 < endMost) × (high .0 < endMost) ⌝ }
+    requires { ⌜ (t .stages < mostPlaces) × Summed (t .walked .0 + length .0) (record { low = low .0; high = high .0 }) ⌝ }
     ensures { λ r. ⌜ trailOf r ≡ ahead (trailOf t) via (length .0) (record { low = low .0; high = high .0 }) ⌝ }
 {
     let walked = t.walked.0 + length.0;
@@ -104,7 +94,7 @@ fn walked_to(
     length: Network,
 ) -> Step
     requires { ⌜ Ground (now ground) counts ⌝ }
-    requires { ⌜ (via < counts .places) × (v < counts .places) × (code ≡ cell (mapOf (now ground)) v) × (Sane (counts .places) (trailOf t)) × (length .0 ≤ mostFurlongs) ⌝ }
+    requires { ⌜ (via < counts .places) × (v < counts .places) × (code ≡ cell (mapOf (now ground)) v) × (Sane (counts .places) (trailOf t)) × (t .stages + 1 < counts .places) × (length .0 ≤ mostFurlongs) ⌝ }
     ensures { λ r. ⌜ r ≡ stepOf (walkedTo (mapOf (now (ground .entry))) v (trailOf t) via (length .0)) ⌝ }
 {
     let next = towards(ground, counts, via, v, code);

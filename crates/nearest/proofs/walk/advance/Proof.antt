@@ -6,12 +6,12 @@ use borrow.Author.Needs.{needs}
 use Rattle.paper.specs.Map.{Map}
 use Rattle.paper.specs.Served.{served}
 use Rattle.paper.specs.Trail.{refine}
+use Rattle.paper.specs.Bounds.{Sane}
+use Rattle.paper.proofs.Bounds.{refine-sane}
 use Rattle.sheet.specs.Ground.{Charted}
 use Rattle.sheet.proofs.Grounds.{roll-count, roll-room, roll-stand}
-use Rattle.quadtree.specs.Sane.{Sane}
 use Rattle.quadtree.specs.Walks.{trailOf}
 use Rattle.quadtree.proofs.Charts.{laid}
-use Rattle.quadtree.proofs.Sizes.{refine-sane}
 use Rattle.quadtree.proofs.Words.{standing}
 use Rattle.nearest.specs.Going.{Led}
 use Rattle.nearest.proofs.Steps.{step-to, step-no}

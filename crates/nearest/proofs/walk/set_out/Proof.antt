@@ -7,9 +7,9 @@ use Rattle.paper.specs.Served.{served}
 use Rattle.paper.specs.Sheet.{mapOf}
 use Rattle.paper.specs.Trail.{start}
 use Rattle.paper.proofs.LaidOut.{Grounded}
+use Rattle.paper.proofs.Bounds.{start-sane}
 use Rattle.sheet.proofs.Grounds.{ground-rules, roll-count, roll-room, roll-stand}
 use Rattle.quadtree.specs.Walks.{trailOf}
-use Rattle.quadtree.proofs.Sizes.{start-sane}
 use Rattle.quadtree.proofs.Words.{standing}
 use Rattle.nearest.proofs.Steps.{step-to, step-no}
 use Rattle.nearest.proofs.Take.{beyond-then, beyond-same, beyond-set}

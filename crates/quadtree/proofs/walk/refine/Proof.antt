@@ -100,7 +100,7 @@ walked-to-requires c κs =
     let b = searched d in
     let s = begin b in
     let L = read d in
-    (s .pre .0, (omega (arith, L, more b _ (s .pre .1 .0 .charted .ground)), s .pre .1 .1 .0, b .before .code .ensures, s .pre .1 .1 .1, omega (arith, L, c .furlongs .ensures .0)))
+    (s .pre .0, (omega (arith, L, more b _ (s .pre .1 .0 .charted .ground)), s .pre .1 .1 .0, b .before .code .ensures, s .pre .1 .1 .1, omega (arith, b .before .before .if1 .left), omega (arith, L, c .furlongs .ensures .0)))
 
 enum-told : tie.Need-enum-told
 enum-told c = search needs

@@ -1,8 +1,9 @@
--- `quadtree::walk::walked_to` meets its contract. The ends are small, so nothing wraps.
+-- `quadtree::walk::walked_to` meets its contract. What is added up is within its bounds, so nothing wraps.
 use mathlib.Core.Path.{sym, ap, _∙_}
 use native.Mathlib.Omega.{arith}
 use borrow.Author.Needs.{needs}
 use Rattle.paper.specs.Trail.{Trail, tested}
+use Rattle.paper.proofs.Bounds.{sums}
 use Rattle.quadtree.specs.Walks.{stepOf}
 use Rattle.quadtree.proofs.Words.{standing, rules}
 use Rattle.quadtree.proofs.Steps.{walked-ends, walked-refused}
@@ -30,8 +31,8 @@ onward-requires c κs =
     let e = standing (p .0) .places in
     let S = p .1 .3 in
     let G = rules (p .0) (λ i q. d .before .shared-slice-known .given i .fits) in
-    let small = ends-within G _ _ (omega (arith, p .1 .0)) (omega (arith, p .1 .1)) _ _ (sym (c .before .next .given .1) ∙ d .towards .ensures) in
-    (S .walked, omega (arith, S .stages, G .places), p .1 .4, small .0, small .1)
+    let B = ends-within G _ _ (omega (arith, p .1 .0)) (omega (arith, p .1 .1)) _ _ (sym (c .before .next .given .1) ∙ d .towards .ensures) in
+    (omega (arith, S .stages, G .places), sums (omega (arith, e, G .places)) S (p .1 .4) (p .1 .5) B)
 
 tested-requires : tie.Need-tested-requires
 tested-requires c κs = search needs

@@ -1,0 +1,66 @@
+-- The largest end that the layout rules allow is met, and a refinement that adds to it: what item 8 asks of a sheet and of a walk can be had.
+use Prim.Native.Nat.{ℕ, _+_}
+use mathlib.Core.Path.{_≡_, refl}
+use mathlib.Core.List.{List, [], _∷_}
+use lib.Dec.{ltb}
+use lib.ListN.{getD}
+use borrow.Author.Tests.{ltb-true}
+use Rattle.paper.specs.Sizes.{wordBytes, roadMost}
+use Rattle.paper.specs.Test.{every}
+use Rattle.paper.specs.Served.{served}
+use Rattle.paper.specs.Map.{Map}
+use Rattle.paper.specs.Sheet.{mapOf, word}
+use Rattle.paper.specs.Crow.{crow}
+use Rattle.paper.specs.Stage.{stageOf}
+use Rattle.paper.specs.Block.{blockOf}
+use Rattle.paper.specs.Layout.{Bytes, layout}
+use Rattle.paper.specs.Words.{asBytes}
+use Rattle.paper.specs.Trail.{Ends, between, Trail, start}
+use Rattle.paper.specs.Bounds.{Met, first, Summed}
+use Rattle.paper.proofs.Test.{every-true}
+use Rattle.paper.proofs.Bounds.{sheet-within}
+
+-- three places, two of them at opposite corners, a stage from each, and a block for each with the ratios 0 and 2^32 - 1
+corners : List ℕ
+unfolding asBytes
+corners = asBytes wordBytes (
+    3 ∷ 0 ∷ 0 ∷ 1 ∷ 0 ∷ 1023 ∷ 1023 ∷
+    3 ∷ 0 ∷ 2 ∷ 65535 ∷ 1 ∷ 0 ∷ 65535 ∷ 2 ∷ 1 ∷ 65535 ∷
+    3 ∷ 0 ∷ 0 ∷ 10 ∷ 0 ∷ 0 ∷ 4294967295 ∷ 1 ∷ 0 ∷ 10 ∷ 0 ∷ 0 ∷ 4294967295 ∷ 2 ∷ 0 ∷ 10 ∷ 0 ∷ 0 ∷ 4294967295 ∷
+    0 ∷ [])
+
+abbrev map : Map
+map = mapOf corners
+
+corners-bytes : Bytes corners
+unfolding corners asBytes every
+corners-bytes i p = ltb-true (getD corners i 0) 256 (every-true 148 (λ i. ltb (getD corners i 0) 256) refl i p)
+
+corners-laid : layout corners ≡ 0
+unfolding layout word corners asBytes
+corners-laid = refl
+
+-- from corner to corner
+abbrev widest : Ends
+widest = record { low = 0; high = 97085554665 }
+
+corners-widest : between map 0 2 ≡ served widest
+unfolding between mapOf word corners asBytes crow
+corners-widest = refl
+
+-- the first trail from place 1 to the far corner, which is refined by way of the near one
+abbrev trail : Trail
+trail = record { via = 1; walked = 0; low = 0; high = 97039417321; stages = 0 }
+
+corners-met : Met map 1 2 trail
+unfolding start mapOf word corners asBytes crow
+corners-met = first refl
+
+corners-summed : Summed (trail .walked + map .furlongs 1) widest
+unfolding blockOf stageOf mapOf word corners asBytes
+corners-summed =
+    sheet-within corners corners-bytes corners-laid 1 2 (ltb-true 1 3 refl) (ltb-true 2 3 refl)
+    .sums trail corners-met (ltb-true 1 3 refl) 1 refl widest corners-widest
+
+road-largest : roadMost ≡ 67042305
+road-largest = refl
