@@ -1,4 +1,4 @@
--- The largest end that the layout rules allow is met, and a refinement that adds to it: what item 8 asks of a sheet and of a walk can be had.
+-- The largest high end that the layout rules allow is met, and a refinement that adds to it: what `sheet-within` asks of a sheet and of a walk can be had.
 use Prim.Native.Nat.{ℕ, _+_}
 use mathlib.Core.Path.{_≡_, refl}
 use mathlib.Core.List.{List, [], _∷_}
