@@ -9,7 +9,7 @@ use crate::rules::refusal::*;
 
 const DIFFERENCES_SHOWN: usize = 20;
 
-/// The numbers that each function can give; 19 cannot be met.
+/// The numbers that each function can give.
 const OF_CHECK: [Number; 13] = [0, 1, 2, 3, 4, 5, 6, 10, 11, 12, 13, 14, 15];
 const OF_QUESTION: [Number; 13] = [0, 1, 2, 3, 4, 5, 6, 7, 8, 9, 16, 17, 18];
 

@@ -49,9 +49,8 @@ impl Tally {
     /// One line for listings and one for each refusal number.
     pub fn table(&self) -> String {
         let mut text = format!("listings: {}\n", self.listings);
-        for number in CUT_SHORT..=LAST {
-            let remark = if number == WALK_TOO_FAR { " (cannot be met)" } else { "" };
-            text += &format!("refused {number}: {}{remark}\n", self.times(number));
+        for &number in REFUSALS {
+            text += &format!("refused {number}: {}\n", self.times(number));
         }
         text
     }

@@ -32,9 +32,6 @@ pub const ANSWER_WORDS: usize = 4;
 pub const WORKING_WORDS: usize = 6;
 pub const COUNT_WORDS: usize = 2;
 
-/// No walked length and no end may pass this (number 19).
-pub const END_MOST: u64 = 1 << 40;
-
 // The program's own limits.
 pub const PROGRAM_HEAD_BYTES: usize = 2 * WORD_BYTES;
 pub const PROGRAM_SHEET_BYTES: usize = 65_536;

@@ -108,13 +108,12 @@ fn walk(map: &Map, q: usize, k: usize, watch: Watch) -> Result<(Vec<Waiting>, u6
     Ok((list, refinements))
 }
 
-/// Every office with its first interval, all three tests for one before the next.
+/// Every office with its first interval, both tests for one before the next.
 pub fn start(map: &Map, q: usize) -> Result<Vec<Waiting>, Number> {
     let mut waiting = Vec::new();
     for (number, &place) in map.sheet.offices.iter().enumerate() {
         let place = place as usize;
-        let interval = map.interval(q, place).ok_or(WALK_NO_BLOCK)?;
-        test_ends(0, interval, interval)?;
+        let interval = kept(map.interval(q, place).ok_or(WALK_NO_BLOCK)?)?;
         waiting.push(Waiting { number, place, via: q, walked: 0, stages: 0, interval });
     }
     Ok(waiting)
@@ -145,18 +144,14 @@ pub fn refine(map: &Map, office: &Waiting) -> Result<Waiting, Number> {
     let walked = office.walked + u64::from(stage.length);
     let via = stage.head as usize;
     let onward = map.interval(via, office.place).ok_or(WALK_NO_BLOCK)?.beyond(walked);
-    let interval = office.interval.overlap(onward);
-    test_ends(walked, onward, interval)?;
+    let interval = kept(office.interval.overlap(onward))?;
     Ok(Waiting { via, walked, stages: office.stages + 1, interval, ..*office })
 }
 
-/// 19 for what was worked out, then 18 for what would be kept.
-fn test_ends(walked: u64, found: Interval, kept: Interval) -> Result<(), Number> {
-    if walked > END_MOST || found.low > END_MOST || found.high > END_MOST {
-        return Err(WALK_TOO_FAR);
-    }
-    if kept.is_empty() {
+/// The interval that would be kept, unless it is empty.
+fn kept(interval: Interval) -> Result<Interval, Number> {
+    if interval.is_empty() {
         return Err(WALK_EMPTY);
     }
-    Ok(())
+    Ok(interval)
 }

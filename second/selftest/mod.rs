@@ -11,7 +11,7 @@ mod random;
 mod readings;
 mod truth;
 
-use crate::rules::refusal::*;
+use crate::rules::refusal::REFUSALS;
 use crate::tally::Tally;
 use std::panic::{catch_unwind, AssertUnwindSafe};
 
@@ -51,9 +51,8 @@ fn part(tally: &mut Tally, name: &str, test: impl FnOnce(&mut Tally)) {
 fn all_were_met(tally: &mut Tally) {
     let listings = tally.listings;
     tally.claim(listings >= LISTINGS_LEAST, || format!("only {listings} listings"));
-    for number in CUT_SHORT..=LAST {
+    for &number in REFUSALS {
         let times = tally.times(number);
-        let enough = if number == WALK_TOO_FAR { times == 0 } else { times >= REFUSALS_LEAST };
-        tally.claim(enough, || format!("refused {number} was met {times} times"));
+        tally.claim(times >= REFUSALS_LEAST, || format!("refused {number} was met {times} times"));
     }
 }

@@ -1,5 +1,6 @@
 //! Self test, part 5: a case for each settled point of docs/DECISIONS.md (1 to 19) that can be put as one. 6, 7, 9
-//! and 18 are among the edges; 12 is looked at in every refinement of a true sheet (demands); 19 is put with 5.
+//! and 18 are among the edges; 12 is looked at in every refinement of a true sheet (demands); 19 is put with 5. Request 8
+//! settled 15 and 17: no test is left for what cannot be met.
 
 use crate::inputs::marked::{self, block, stage};
 use crate::rules::limits::ANSWER_WORDS;
