@@ -41,8 +41,8 @@ impl Waiting {
     }
 }
 
-/// Told of every refinement: the office before it and after it.
-pub type Watch<'a> = &'a mut dyn FnMut(&Waiting, &Waiting);
+/// Told of every refinement that is due: the office before it, and what comes of it.
+pub type Watch<'a> = &'a mut dyn FnMut(&Waiting, &Result<Waiting, Number>);
 
 pub fn question(bytes: &[u8], q: u64, k: u64, answer: &mut [u64], working: &mut [u64]) -> Outcome {
     question_watched(bytes, q, k, answer, working, &mut |_, _| {})
@@ -99,9 +99,9 @@ fn walk(map: &Map, q: usize, k: usize, watch: Watch) -> Result<(Vec<Waiting>, u6
         if comes_before_all_others(&waiting, leader) {
             list.push(waiting.remove(leader));
         } else {
-            let refined = refine(map, &waiting[leader])?;
+            let refined = refine(map, &waiting[leader]);
             watch(&waiting[leader], &refined);
-            waiting[leader] = refined;
+            waiting[leader] = refined?;
             refinements += 1;
         }
     }

@@ -2,6 +2,7 @@
 
 use crate::rules::limits::*;
 use crate::rules::question::{question_watched, Waiting};
+use crate::rules::refusal::Number;
 use crate::rules::sheet::Sheet;
 use crate::selftest::oracle::{road, Road};
 use crate::selftest::plain::roads_from;
@@ -21,7 +22,9 @@ pub fn hold(tally: &mut Tally, name: &str, sheet: &Sheet, q: usize, k: usize) {
     let mut list = vec![0; ANSWER_WORDS * k];
     let mut working = vec![0; WORKING_WORDS * sheet.offices.len()];
     let mut steps = Vec::new();
-    let mut watch = |before: &Waiting, after: &Waiting| steps.push((*before, *after));
+    let mut watch = |before: &Waiting, after: &Result<Waiting, Number>| {
+        steps.push((*before, after.expect("an accepted sheet")));
+    };
     let bytes = sheet.to_bytes();
     let outcome = question_watched(&bytes, q as u64, k as u64, &mut list, &mut working, &mut watch);
     let known = roads_from(sheet, q);

@@ -4,8 +4,8 @@
 use crate::rules::limits::ANSWER_WORDS;
 use crate::rules::refusal::*;
 use crate::rules::sheet::Sheet;
-use crate::selftest::plain::{block_for, crow, ends, stage_of_colour};
-use std::collections::BTreeSet;
+use crate::selftest::plain::{ends_between, stage_towards};
+use std::collections::{BTreeMap, BTreeSet};
 
 /// The ends kept after so many stages, or the refusal that is met there.
 type Ends = Result<(i128, i128), Number>;
@@ -32,13 +32,9 @@ pub fn road(sheet: &Sheet, q: usize, sought: usize) -> Road {
     let mut road = Road { ends: Vec::new(), arrives: false };
     let mut kept = (0, i128::MAX);
     while road.ends.len() < sheet.places.len() {
-        let here = match (via == sought, block_for(sheet, via, sought)) {
-            (true, _) => (0, 0),
-            (false, Some(block)) => ends(block, crow(&sheet.places[via], &sheet.places[sought])),
-            (false, None) => {
-                road.ends.push(Err(WALK_NO_BLOCK));
-                return road;
-            }
+        let Some(here) = ends_between(sheet, via, sought) else {
+            road.ends.push(Err(WALK_NO_BLOCK));
+            return road;
         };
         kept = (kept.0.max(here.0 + walked), kept.1.min(here.1 + walked));
         road.ends.push(if kept.0 > kept.1 { Err(WALK_EMPTY) } else { Ok(kept) });
@@ -46,8 +42,7 @@ pub fn road(sheet: &Sheet, q: usize, sought: usize) -> Road {
         if road.arrives || kept.0 > kept.1 {
             return road;
         }
-        let block = block_for(sheet, via, sought).expect("it gave this interval");
-        let stage = stage_of_colour(sheet, block.place, block.colour);
+        let stage = stage_towards(sheet, via, sought);
         walked += i128::from(stage.length);
         via = stage.head as usize;
     }
@@ -56,8 +51,9 @@ pub fn road(sheet: &Sheet, q: usize, sought: usize) -> Road {
 
 /// What a valid question lists, with its total, or its refusal; the layout holds.
 pub fn listing(sheet: &Sheet, q: usize, k: usize) -> Result<(Vec<u64>, u64), Number> {
-    let roads: Vec<Road> = (0..sheet.places.len()).map(|v| road(sheet, q, v)).collect();
-    let road_of = |office: usize| &roads[sheet.offices[office] as usize];
+    let towns: BTreeSet<u32> = sheet.offices.iter().copied().collect();
+    let roads: BTreeMap<u32, Road> = towns.into_iter().map(|v| (v, road(sheet, q, v as usize))).collect();
+    let road_of = |office: usize| &roads[&sheet.offices[office]];
     let mut waiting = BTreeSet::new();
     let mut stages = vec![0; sheet.offices.len()];
     for office in 0..sheet.offices.len() {

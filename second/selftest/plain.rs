@@ -31,7 +31,7 @@ pub fn crow(a: &Place, b: &Place) -> i128 {
 }
 
 /// The least e with e × unit ≥ low × c, and the greatest e with e × unit ≤ high × c.
-pub fn ends(block: &Block, crow: i128) -> (i128, i128) {
+fn ends(block: &Block, crow: i128) -> (i128, i128) {
     let unit = i128::from(RATIO_UNIT);
     let mut low = i128::from(block.low) * crow / unit;
     if low * unit < i128::from(block.low) * crow {
@@ -78,4 +78,18 @@ pub fn stage_of_colour(sheet: &Sheet, place: u32, colour: u32) -> &Stage {
 /// The block of u that covers v, by the squares.
 pub fn block_for(sheet: &Sheet, u: usize, v: usize) -> Option<&Block> {
     sheet.blocks.iter().find(|b| b.place == u as u32 && covers(b, &sheet.places[v]))
+}
+
+/// The interval from u to v, unless no block of u covers v.
+pub fn ends_between(sheet: &Sheet, u: usize, v: usize) -> Option<(i128, i128)> {
+    if u == v {
+        return Some((0, 0));
+    }
+    block_for(sheet, u, v).map(|block| ends(block, crow(&sheet.places[u], &sheet.places[v])))
+}
+
+/// The stage that a block of u names for v.
+pub fn stage_towards(sheet: &Sheet, u: usize, v: usize) -> &Stage {
+    let block = block_for(sheet, u, v).expect("it gave the interval");
+    stage_of_colour(sheet, block.place, block.colour)
 }
