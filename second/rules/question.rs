@@ -21,7 +21,7 @@ impl Outcome {
 }
 
 /// An office that waits to be listed.
-#[derive(Clone, Copy, Debug)]
+#[derive(Clone, Copy, PartialEq, Debug)]
 pub struct Waiting {
     pub number: usize,
     pub place: usize,

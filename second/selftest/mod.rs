@@ -3,6 +3,8 @@
 mod demands;
 mod host;
 mod large;
+mod largest;
+mod longest;
 mod oracle;
 mod paper;
 mod plain;
@@ -27,6 +29,7 @@ pub fn run(seed: u64, count: u64) -> bool {
     part(&mut tally, "a host's bytes", host::run);
     part(&mut tally, "edges", random::edges);
     part(&mut tally, "layout maxima", large::run);
+    part(&mut tally, "the longest walks", |t| longest::run(t, seed));
     part(&mut tally, "random inputs", |t| random::inputs(t, seed, count));
     part(&mut tally, "walks", |t| random::walks(t, seed, count / 4));
     part(&mut tally, "numbers met", all_were_met);

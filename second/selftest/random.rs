@@ -91,7 +91,7 @@ fn one_sheet(tally: &mut Tally, name: &str, bytes: &[u8], (q, k): (u64, u64)) ->
 }
 
 /// What a question on a sheet whose layout holds should give, by the oracle.
-fn question_due(sheet: &Sheet, q: u64, k: u64) -> (Outcome, Vec<u64>) {
+pub fn question_due(sheet: &Sheet, q: u64, k: u64) -> (Outcome, Vec<u64>) {
     let answer_words = ANSWER_WORDS * (k as usize).min(sheet.offices.len());
     let untouched = |number| (Outcome::refused(number), vec![UNTOUCHED_LONG; answer_words]);
     if q as usize >= sheet.places.len() {

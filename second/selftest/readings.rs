@@ -1,11 +1,12 @@
 //! Self test, part 5: a case for each settled point of docs/DECISIONS.md (1 to 19) that can be put as one. 6, 7, 9
-//! and 18 are among the edges; 12 is looked at in every refinement of a true sheet (demands); 19 is put with 5. Request 8
-//! settled 15 and 17: no test is left for what cannot be met.
+//! and 18 are among the edges; 12 is looked at in every refinement of a true sheet (demands); 15 is put by the longest
+//! walks; 19 is put with 5. 17 is of a test that request 8 took out.
 
+use crate::inputs::longest::maps::ring;
 use crate::inputs::marked::{self, block, stage};
 use crate::rules::limits::ANSWER_WORDS;
 use crate::rules::map::Map;
-use crate::rules::measure::{crow, interval_by};
+use crate::rules::measure::crow;
 use crate::rules::program::{answer, input_of};
 use crate::rules::refusal::Number;
 use crate::rules::sheet::{Place, Sheet};
@@ -151,19 +152,14 @@ fn largest_numbers(tally: &mut Tally) {
     let (near, far) = (Place::at(0, 0), Place::at(1_023, 1_023));
     tally.same("the longest crow distance", crow(near, far).0, 23_147);
     tally.same("the shortest crow distance", crow(near, Place::at(1, 0)).0, 16);
-    let open = block([0, 0, 10, 0, u32::MAX, u32::MAX]);
-    tally.same("reading 15", interval_by(&open, crow(near, far)).high, 97_085_554_665);
     ring_of_long_stages(tally);
 }
 
 /// Reading 16: a loop post of 1,024 places whose neighbours lie a whole loop apart.
 fn ring_of_long_stages(tally: &mut Tally) {
-    let mut sheet = Sheet {
-        places: (0..1_024).map(|x| Place::at(x, 0)).collect(),
-        stages: (0..1_024).map(|u| stage([u, (u + 1) % 1_024, 65_535])).collect(),
-        blocks: (0..1_024).map(|u| block([u, 0, 10, 0, 0, 4_290_707_520])).collect(),
-        offices: vec![1_023, 0, 1],
-    };
+    let mut sheet = ring((0..1_024).map(|x| Place::at(x, 0)).collect());
+    sheet.blocks.iter_mut().for_each(|b| b.high = 4_290_707_520);
+    sheet.offices = vec![1_023, 0, 1];
     check_gives(tally, "reading 16, the longest road", &sheet, 0);
     let (outcome, list) = question_asked(tally, "reading 16", &sheet.to_bytes(), 1, 3);
     let offices: Vec<u64> = list.chunks(ANSWER_WORDS).map(|record| record[0]).collect();

@@ -1,0 +1,43 @@
+//! What a case of the longest walks is: a map, and what is due on it by the paper.
+
+use crate::rules::limits::ANSWER_WORDS;
+use crate::rules::refusal::Number;
+use crate::rules::sheet::Sheet;
+
+pub struct Case {
+    pub name: &'static str,
+    /// A sheet without its offices.
+    pub map: Sheet,
+    /// What the check gives.
+    pub check: Number,
+    pub questions: Vec<Question>,
+}
+
+/// A valid question over these offices.
+pub struct Question {
+    pub offices: Vec<u32>,
+    pub q: u32,
+    pub k: u32,
+    pub due: Due,
+}
+
+/// The list and the total of refinements, or the refusal.
+pub type Due = Result<(Vec<Record>, u64), Number>;
+
+/// Number, low end, high end, stages.
+pub type Record = [u64; ANSWER_WORDS];
+
+impl Case {
+    pub fn sheet(&self, question: &Question) -> Sheet {
+        Sheet { offices: question.offices.clone(), ..self.map.clone() }
+    }
+}
+
+/// A question for as many offices as this list has.
+pub fn listed(offices: &[u32], q: u32, list: &[Record], total: u64) -> Question {
+    Question { offices: offices.to_vec(), q, k: list.len() as u32, due: Ok((list.to_vec(), total)) }
+}
+
+pub fn refused(offices: &[u32], (q, k): (u32, u32), number: Number) -> Question {
+    Question { offices: offices.to_vec(), q, k, due: Err(number) }
+}

@@ -1,0 +1,51 @@
+//! The largest numbers that walks meet.
+
+use crate::rules::limits::{ANSWER_WORDS, WORKING_WORDS};
+use crate::rules::question::{question_watched, Waiting};
+use crate::rules::refusal::{Number, WALK_TOO_LONG};
+use crate::rules::sheet::Sheet;
+use crate::selftest::plain::{ends_between, stage_towards};
+
+#[derive(Clone, Copy, Default, PartialEq, Debug)]
+pub struct Largest {
+    pub walked: i128,
+    /// Before the walked length is added.
+    pub end: i128,
+    pub sum: i128,
+}
+
+impl Largest {
+    /// Over all that a valid question works out: first intervals, and refinements with the one that is refused.
+    pub fn of(sheet: &Sheet, q: usize, k: usize) -> Largest {
+        let mut largest = Largest::default();
+        for &place in &sheet.offices {
+            largest.meet(sheet, q, place as usize, 0);
+        }
+        let mut watch = |before: &Waiting, after: &Result<Waiting, Number>| {
+            if *after != Err(WALK_TOO_LONG) {
+                largest.refine(sheet, before);
+            }
+        };
+        let mut list = vec![0; ANSWER_WORDS * k];
+        let mut working = vec![0; WORKING_WORDS * sheet.offices.len()];
+        question_watched(&sheet.to_bytes(), q as u64, k as u64, &mut list, &mut working, &mut watch);
+        largest
+    }
+
+    pub fn or(self, other: Largest) -> Largest {
+        Largest { walked: self.walked.max(other.walked), end: self.end.max(other.end), sum: self.sum.max(other.sum) }
+    }
+
+    fn refine(&mut self, sheet: &Sheet, office: &Waiting) {
+        let stage = stage_towards(sheet, office.via, office.place);
+        let walked = i128::from(office.walked) + i128::from(stage.length);
+        self.meet(sheet, stage.head as usize, office.place, walked);
+    }
+
+    fn meet(&mut self, sheet: &Sheet, via: usize, place: usize, walked: i128) {
+        // Where no block covers the place, no end is worked out.
+        let (low, high) = ends_between(sheet, via, place).unwrap_or_default();
+        let end = low.max(high);
+        *self = self.or(Largest { walked, end, sum: walked + end });
+    }
+}
