@@ -1,10 +1,15 @@
-//! The largest numbers that walks meet.
+//! The largest numbers that walks meet, and what no walk passes on a sheet whose layout holds: claims, and no rules.
 
 use crate::rules::limits::{ANSWER_WORDS, WORKING_WORDS};
 use crate::rules::question::{question_watched, Waiting};
 use crate::rules::refusal::{Number, WALK_TOO_LONG};
 use crate::rules::sheet::Sheet;
 use crate::selftest::plain::{ends_between, stage_towards};
+use crate::tally::Tally;
+
+const WALKED_MOST: i128 = 67_042_305;
+const END_BELOW: i128 = 100_000_000_000;
+const SUM_MOST: i128 = 1 << 40;
 
 #[derive(Clone, Copy, Default, PartialEq, Debug)]
 pub struct Largest {
@@ -12,6 +17,12 @@ pub struct Largest {
     /// Before the walked length is added.
     pub end: i128,
     pub sum: i128,
+}
+
+pub fn bounds_hold(tally: &mut Tally, name: &str, sheet: &Sheet, q: usize, k: usize) {
+    let largest = Largest::of(sheet, q, k);
+    let within = largest.walked <= WALKED_MOST && largest.end < END_BELOW && largest.sum <= SUM_MOST;
+    tally.claim(within, || format!("{name}: beyond what a walk can meet: {largest:?}"));
 }
 
 impl Largest {

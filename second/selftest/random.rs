@@ -13,6 +13,7 @@ use crate::rules::question::Outcome;
 use crate::rules::refusal::*;
 use crate::rules::sheet::{words_of, Sheet};
 use crate::selftest::demands;
+use crate::selftest::largest::bounds_hold;
 use crate::selftest::oracle;
 use crate::selftest::probe::{check_number, question_asked, UNTOUCHED_LONG};
 use crate::selftest::truth;
@@ -84,6 +85,9 @@ fn one_sheet(tally: &mut Tally, name: &str, bytes: &[u8], (q, k): (u64, u64)) ->
     tally.same(name, number, truth::due_of_check(&sheet));
     tally.same(name, number == ACCEPTED, truth::tells_the_truth(&sheet));
     tally.same(name, (outcome, list), question_due(&sheet, q, k));
+    if ![BAD_Q, BAD_K].contains(&outcome.number) {
+        bounds_hold(tally, name, &sheet, q as usize, k as usize);
+    }
     if number == ACCEPTED && outcome.number == ACCEPTED {
         demands::hold(tally, name, &sheet, q as usize, k as usize);
     }
