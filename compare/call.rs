@@ -3,9 +3,11 @@
 use crate::ask::Ask;
 use crate::crash::noted;
 use crate::guarded::{Guard, Guarded};
+use crate::inputs::longest::case::Record;
 use crate::library;
-use crate::rules::host;
-use crate::rules::refusal::Number;
+use crate::rules::host::{self, long_words_of};
+use crate::rules::limits::ANSWER_WORDS;
+use crate::rules::refusal::{Number, ACCEPTED};
 use crate::which::Which;
 
 #[derive(Clone, Copy)]
@@ -92,6 +94,16 @@ impl Call {
         });
         let kept = sheet.bytes() == bytes && sheet.is_kept_beside() && lent.iter().all(Guarded::is_kept_beside);
         Outcome { number, slices: lent.iter().map(|slice| slice.bytes().to_vec()).collect(), kept }
+    }
+
+    /// The records of a list.
+    pub fn list(&self, outcome: &Outcome) -> Vec<Record> {
+        let Ask::Question(_, k, _) = self.ask else {
+            return Vec::new();
+        };
+        let count = if outcome.number == ACCEPTED { k as usize } else { 0 };
+        let words = long_words_of(&outcome.slices[0]);
+        words.chunks(ANSWER_WORDS).take(count).map(|record| record.try_into().expect("a whole record")).collect()
     }
 
     /// Nothing where the two are the same; else what differs first.

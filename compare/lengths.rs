@@ -8,8 +8,6 @@ use crate::inputs::rng::Rng;
 use crate::rules::limits::*;
 use crate::rules::sheet::Sheet;
 
-const COUNTS_BYTES: usize = COUNT_WORDS * LONG_WORD_BYTES;
-
 /// What the lengths of a sheet's slices are measured by.
 pub struct Sizes {
     places: usize,
@@ -26,12 +24,10 @@ impl Sizes {
         WORD_BYTES * self.places * self.places
     }
 
-    fn answer(&self, k: u32) -> usize {
-        ANSWER_WORDS * LONG_WORD_BYTES * (k as usize).min(self.offices + 1)
-    }
-
-    fn working(&self) -> usize {
-        WORKING_WORDS * LONG_WORD_BYTES * self.offices
+    /// Of the answer, the working slice and the counts.
+    fn of_question(&self, k: u32) -> [usize; 3] {
+        let words = [ANSWER_WORDS * (k as usize).min(self.offices + 1), WORKING_WORDS * self.offices, COUNT_WORDS];
+        words.map(|words| words * LONG_WORD_BYTES)
     }
 }
 
@@ -52,9 +48,15 @@ pub fn check_short(rng: &mut Rng, sizes: &Sizes) -> Call {
     call(rng, Ask::Check(length))
 }
 
+/// A question of which no slice is too short.
+pub fn question_with_room(rng: &mut Rng, sizes: &Sizes, (q, k): (u32, u32)) -> Call {
+    let lengths = sizes.of_question(k).map(|length| enough(rng, length));
+    call(rng, Ask::Question(q, k, lengths))
+}
+
 /// A question of which mostly no slice is too short, or one of them, or all.
 pub fn question(rng: &mut Rng, sizes: &Sizes, (q, k): (u32, u32)) -> Call {
-    let exact = [sizes.answer(k), sizes.working(), COUNTS_BYTES];
+    let exact = sizes.of_question(k);
     let mut lengths = exact.map(|length| enough(rng, length));
     let changed = rng.below(9);
     for slice in 0..exact.len() {

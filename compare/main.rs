@@ -24,13 +24,16 @@ mod tally;
 mod threads;
 mod which;
 
+use inputs::longest;
+use inputs::rng::Rng;
 use std::io::{self, Write};
 use std::process::ExitCode;
 use table::{Scope, Table};
 use which::{Part, Which};
 
-const USAGE: &str = "usage: compare SEED SMALL FULL: SMALL sheets of program size, FULL nets of full size, and threads
-       compare small | full | threads SEED INDEX: one of these again, as a difference names it";
+const USAGE: &str = "usage: compare SEED SMALL FULL: SMALL sheets of program size, FULL nets of full size, the \
+    longest walks, and threads
+       compare small | full | longest | threads SEED INDEX: one of these again, as a difference names it";
 
 fn main() -> ExitCode {
     let arguments: Vec<String> = std::env::args().skip(1).collect();
@@ -63,8 +66,11 @@ fn run(words: &[&str]) -> Option<(Table, Scope)> {
 
 /// The large ones first, so that no thread is left alone with one.
 fn whole(seed: u64, small: u64, full: u64) -> Table {
-    let mut work: Vec<Which> = (0..full).map(|index| Which { part: Part::Full, seed, index }).collect();
-    work.extend((0..small).map(|index| Which { part: Part::Small, seed, index }));
+    let longest = longest::all(&mut Rng::new(seed, 0)).len() as u64;
+    let mut work = Vec::new();
+    for (part, count) in [(Part::Full, full), (Part::Longest, longest), (Part::Small, small)] {
+        work.extend((0..count).map(|index| Which { part, seed, index }));
+    }
     let mut table = run::all(&work);
     table.add(threads::at_once(Which { part: Part::Threads, seed, index: 0 }));
     table

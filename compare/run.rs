@@ -4,8 +4,9 @@ use crate::call::{Call, Slices};
 use crate::guarded::{Guard, Guarded};
 use crate::inputs::edges;
 use crate::inputs::edges::edge::Edge;
+use crate::inputs::longest::case::Case;
 use crate::inputs::rng::Rng;
-use crate::lengths::{check_short, checked, place_and_number, question, Sizes};
+use crate::lengths::{check_short, checked, place_and_number, question, question_with_room, Sizes};
 use crate::rules::sheet::Sheet;
 use crate::sheets;
 use crate::table::Table;
@@ -57,12 +58,16 @@ impl Worker<'_> {
     fn one(&mut self, which: Which) {
         // Apart from the streams of the makers.
         let mut rng = Rng::new(!which.seed, which.index);
-        if which.part == Part::Small {
-            let bytes = sheets::small(&mut rng, which.seed, which.index, self.edges);
-            self.small(&mut rng, which, &bytes);
-        } else {
-            for (form, bytes) in sheets::full(&mut rng, which.seed, which.index).iter().enumerate() {
-                self.full(&mut rng, which, bytes, form);
+        match which.part {
+            Part::Small => {
+                let bytes = sheets::small(&mut rng, which.seed, which.index, self.edges);
+                self.small(&mut rng, which, &bytes);
+            }
+            Part::Longest => self.longest(&mut rng, which, &sheets::longest(which.seed, which.index)),
+            _ => {
+                for (form, bytes) in sheets::full(&mut rng, which.seed, which.index).iter().enumerate() {
+                    self.full(&mut rng, which, bytes, form);
+                }
             }
         }
     }
@@ -96,12 +101,27 @@ impl Worker<'_> {
         self.calls(rng, which, bytes, &calls);
     }
 
+    /// Each question with room for its answer, then with any slices, then another; one check will do for the map.
+    fn longest(&mut self, rng: &mut Rng, which: Which, case: &Case) {
+        for (turn, asked) in case.questions.iter().enumerate() {
+            let sheet = case.sheet(asked);
+            let sizes = Sizes::of(Some(&sheet));
+            let mut calls = vec![if turn == 0 { checked(rng, &sizes) } else { check_short(rng, &sizes) }];
+            let asked = (asked.q, asked.k);
+            let other = place_and_number(rng, Some(&sheet), &sizes);
+            calls.push(question_with_room(rng, &sizes, asked));
+            calls.extend([asked, other].map(|asked| question(rng, &sizes, asked)));
+            self.table.longest += 1;
+            self.calls(rng, which, &sheet.to_bytes(), &calls);
+        }
+    }
+
     fn calls(&mut self, rng: &mut Rng, which: Which, bytes: &[u8], calls: &[Call]) {
         let sheet = Guarded::holding(bytes, rng.pick(&Guard::ALL));
         for call in calls {
             let due = call.due(bytes);
             let found = call.found(which, &sheet, bytes, &mut self.slices);
-            self.table.met(call, &sheet, due.number);
+            self.table.met(which.part, call, &sheet, &due);
             if let Some(difference) = call.difference(&found, &due) {
                 self.table.differ(format!("{which}: {}: {difference}", call.ask));
             }

@@ -1,11 +1,13 @@
-//! Which sheets are compared: of program size by the second program's makers, and of full size, each in a true form and
-//! in damaged ones.
+//! Which sheets are compared: of program size by the second program's makers; of full size, each in a true form and in
+//! damaged ones; and the longest walks.
 
 use crate::inputs::damage;
 use crate::inputs::damage::walk::{goes_round, WALK_FAULTS};
 use crate::inputs::draw::true_sheet;
 use crate::inputs::edges::edge::Edge;
 use crate::inputs::full;
+use crate::inputs::longest;
+use crate::inputs::longest::case::Case;
 use crate::inputs::make;
 use crate::inputs::rng::Rng;
 use crate::rules::limits::*;
@@ -45,6 +47,13 @@ pub fn full(rng: &mut Rng, seed: u64, index: u64) -> Vec<Vec<u8>> {
     let mut forms: Vec<Vec<u8>> = [sheet, round, fallen, damaged, again, over].iter().map(Sheet::to_bytes).collect();
     forms.push(cut);
     forms
+}
+
+/// The cases of the longest walks in turn, for each index with places of its own.
+pub fn longest(seed: u64, index: u64) -> Case {
+    let mut cases = longest::all(&mut Rng::new(seed, index));
+    let turn = index as usize % cases.len();
+    cases.swap_remove(turn)
 }
 
 fn one_over(sheet: &Sheet, section: usize) -> Sheet {

@@ -1,13 +1,18 @@
-//! The count of sheets, calls and differences, of how often each function was due to give each number, and of how often
-//! each input that has to be met was lent.
+//! The count of sheets, calls and differences, of how often each function was due to give each number, of how often
+//! each input that has to be met was lent, and of what the longest walks came to.
 
 use crate::ask::Ask;
-use crate::call::Call;
+use crate::call::{Call, Outcome};
 use crate::guarded::Guarded;
 use crate::rules::limits::*;
 use crate::rules::refusal::*;
+use crate::which::Part;
 
 const DIFFERENCES_SHOWN: usize = 20;
+
+/// What each function is called, and a call that is not refused.
+const CHECK: [&str; 2] = ["check", "accepted"];
+const QUESTION: [&str; 2] = ["question", "listed"];
 
 /// The numbers that each function can give.
 const OF_CHECK: [Number; 13] = [0, 1, 2, 3, 4, 5, 6, 10, 11, 12, 13, 14, 15];
@@ -37,6 +42,18 @@ const INPUT_NAMES: [&str; INPUTS] = [
     "counts of 17 bytes",
 ];
 
+const LONGEST: usize = 8;
+const LONGEST_NAMES: [&str; LONGEST] = [
+    "check: accepted",
+    "question: refused 16",
+    "question: refused 18",
+    "0 to 97085554665 after 0 stages",
+    "97085554643 to 97085554665 after 0 stages",
+    "131070 to 96896942055 after 2 stages",
+    "94256364555 to 94256364556 after 1022 stages",
+    "67042305 to 67042305 after 1023 stages",
+];
+
 /// Whether everything has to be met, or a part is compared again.
 #[derive(Clone, Copy, PartialEq)]
 pub enum Scope {
@@ -48,10 +65,12 @@ pub enum Scope {
 pub struct Table {
     pub small: u64,
     pub full: u64,
+    pub longest: u64,
     pub at_once: u64,
     checks: [u64; LAST as usize + 1],
     questions: [u64; LAST as usize + 1],
     inputs: [u64; INPUTS],
+    walks: [u64; LONGEST],
     differences: Vec<String>,
 }
 
@@ -73,12 +92,30 @@ fn inputs(call: &Call, sheet: &Guarded, due: Number) -> [bool; INPUTS] {
     [empty, largest, odd, no_sheet, distances, answer, working, no_counts, broken, none, short, exact, more]
 }
 
+fn given([function, good]: [&str; 2], number: Number) -> String {
+    if number == ACCEPTED { format!("{function}: {good}") } else { format!("{function}: refused {number}") }
+}
+
+/// What is due on the longest walks, by their names: what the function gives, and how each office is listed.
+fn walks(call: &Call, due: &Outcome) -> Vec<String> {
+    let function = if matches!(call.ask, Ask::Check(_)) { CHECK } else { QUESTION };
+    let mut names = vec![given(function, due.number)];
+    for [_, low, high, stages] in call.list(due) {
+        names.push(format!("{low} to {high} after {stages} stages"));
+    }
+    names
+}
+
 impl Table {
-    pub fn met(&mut self, call: &Call, sheet: &Guarded, due: Number) {
+    pub fn met(&mut self, part: Part, call: &Call, sheet: &Guarded, due: &Outcome) {
         let numbers = if matches!(call.ask, Ask::Check(_)) { &mut self.checks } else { &mut self.questions };
-        numbers[due as usize] += 1;
-        for (count, is) in self.inputs.iter_mut().zip(inputs(call, sheet, due)) {
+        numbers[due.number as usize] += 1;
+        for (count, is) in self.inputs.iter_mut().zip(inputs(call, sheet, due.number)) {
             *count += u64::from(is);
+        }
+        let met = if part == Part::Longest { walks(call, due) } else { Vec::new() };
+        for (count, name) in self.walks.iter_mut().zip(LONGEST_NAMES) {
+            *count += u64::from(met.iter().any(|met| met == name));
         }
     }
 
@@ -89,24 +126,24 @@ impl Table {
     pub fn add(&mut self, other: Table) {
         self.small += other.small;
         self.full += other.full;
+        self.longest += other.longest;
         self.at_once += other.at_once;
         let add = |to: &mut [u64], from: &[u64]| to.iter_mut().zip(from).for_each(|(to, from)| *to += from);
         add(&mut self.checks, &other.checks);
         add(&mut self.questions, &other.questions);
         add(&mut self.inputs, &other.inputs);
+        add(&mut self.walks, &other.walks);
         self.differences.extend(other.differences);
     }
 
     /// All that a whole comparison has to meet, and how often it was met.
     fn lines(&self) -> Vec<(String, u64)> {
         let mut lines = Vec::new();
-        for (name, good, numbers, met) in
-            [("check", "accepted", OF_CHECK, self.checks), ("question", "listed", OF_QUESTION, self.questions)]
-        {
-            lines.push((format!("{name}: {good}"), met[ACCEPTED as usize]));
-            lines.extend(numbers[1..].iter().map(|&n| (format!("{name}: refused {n}"), met[n as usize])));
+        for (function, numbers, met) in [(CHECK, OF_CHECK, self.checks), (QUESTION, OF_QUESTION, self.questions)] {
+            lines.extend(numbers.map(|number| (given(function, number), met[number as usize])));
         }
         lines.extend(INPUT_NAMES.iter().zip(self.inputs).map(|(name, met)| (format!("calls with {name}"), met)));
+        lines.extend(LONGEST_NAMES.iter().zip(self.walks).map(|(name, met)| (format!("longest walks: {name}"), met)));
         lines.push((String::from("calls by threads at once"), self.at_once));
         lines
     }
@@ -126,7 +163,8 @@ impl Table {
             text += &format!("DIFFERS {difference}\n");
         }
         let (checks, questions) = (self.checks.iter().sum::<u64>(), self.questions.iter().sum::<u64>());
-        text += &format!("{} sheets of program size, {} of full size; ", self.small, self.full);
+        text += &format!("{} sheets of program size, {} of full size, ", self.small, self.full);
+        text += &format!("{} of the longest walks; ", self.longest);
         text += &format!("{checks} checks, {questions} questions; {} differ", self.differences.len());
         if scope == Scope::Whole {
             text += &format!(", {} of the above were not met", self.not_met());

@@ -8,6 +8,8 @@ pub enum Part {
     Small,
     /// A net of full size, in its forms.
     Full,
+    /// A map of the longest walks, with its questions.
+    Longest,
     /// Calls by several threads at once.
     Threads,
 }
@@ -21,13 +23,14 @@ pub struct Which {
 
 impl Part {
     pub fn named(word: &str) -> Option<Part> {
-        [Part::Small, Part::Full, Part::Threads].into_iter().find(|part| part.name() == word)
+        [Part::Small, Part::Full, Part::Longest, Part::Threads].into_iter().find(|part| part.name() == word)
     }
 
     fn name(self) -> &'static str {
         match self {
             Part::Small => "small",
             Part::Full => "full",
+            Part::Longest => "longest",
             Part::Threads => "threads",
         }
     }
