@@ -42,6 +42,7 @@ const INPUT_NAMES: [&str; INPUTS] = [
     "counts of 17 bytes",
 ];
 
+/// On the longest walks: what the functions give, and the ends and stages of an office in a list.
 const LONGEST: usize = 8;
 const LONGEST_NAMES: [&str; LONGEST] = [
     "check: accepted",
@@ -96,7 +97,7 @@ fn given([function, good]: [&str; 2], number: Number) -> String {
     if number == ACCEPTED { format!("{function}: {good}") } else { format!("{function}: refused {number}") }
 }
 
-/// What is due on the longest walks, by their names: what the function gives, and how each office is listed.
+/// What is due of a call, as the names of the longest walks tell it.
 fn walks(call: &Call, due: &Outcome) -> Vec<String> {
     let function = if matches!(call.ask, Ask::Check(_)) { CHECK } else { QUESTION };
     let mut names = vec![given(function, due.number)];

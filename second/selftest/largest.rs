@@ -7,6 +7,7 @@ use crate::rules::sheet::Sheet;
 use crate::selftest::plain::{ends_between, stage_towards};
 use crate::tally::Tally;
 
+// Request 8: why no refusal is needed for a length that grows too far.
 const WALKED_MOST: i128 = 67_042_305;
 const END_BELOW: i128 = 100_000_000_000;
 const SUM_MOST: i128 = 1 << 40;
