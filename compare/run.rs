@@ -64,7 +64,8 @@ impl Worker<'_> {
                 self.small(&mut rng, which, &bytes);
             }
             Part::Longest => self.longest(&mut rng, which, &sheets::longest(which.seed, which.index)),
-            _ => {
+            Part::Threads => unreachable!("threads are compared on their own"),
+            Part::Full => {
                 for (form, bytes) in sheets::full(&mut rng, which.seed, which.index).iter().enumerate() {
                     self.full(&mut rng, which, bytes, form);
                 }

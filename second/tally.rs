@@ -49,7 +49,7 @@ impl Tally {
     /// One line for listings and one for each refusal number.
     pub fn table(&self) -> String {
         let mut text = format!("listings: {}\n", self.listings);
-        for &number in REFUSALS {
+        for number in refusals() {
             text += &format!("refused {number}: {}\n", self.times(number));
         }
         text

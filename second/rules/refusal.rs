@@ -23,27 +23,9 @@ pub const WALK_NO_BLOCK: Number = 17;
 pub const WALK_EMPTY: Number = 18;
 pub const PROGRAM_LIMIT: Number = 20;
 
-/// Every number that refuses, in the order of the table.
-pub const REFUSALS: &[Number] = &[
-    CUT_SHORT,
-    BAD_COUNT,
-    BAD_PLACES,
-    BAD_STAGES,
-    BAD_BLOCKS,
-    BAD_OFFICES,
-    BAD_Q,
-    BAD_K,
-    SHORT_SLICES,
-    SHORT_DISTANCES,
-    UNREACHED,
-    IN_NO_BLOCK,
-    WRONG_COLOUR,
-    UNTRUE_RATIO,
-    IDLE_BLOCK,
-    WALK_TOO_LONG,
-    WALK_NO_BLOCK,
-    WALK_EMPTY,
-    PROGRAM_LIMIT,
-];
-
 pub const LAST: Number = PROGRAM_LIMIT;
+
+/// Every number that refuses.
+pub fn refusals() -> impl Iterator<Item = Number> {
+    (CUT_SHORT..=WALK_EMPTY).chain([PROGRAM_LIMIT])
+}

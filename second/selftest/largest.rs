@@ -27,7 +27,7 @@ pub fn bounds_hold(tally: &mut Tally, name: &str, sheet: &Sheet, q: usize, k: us
 }
 
 impl Largest {
-    /// Over all that a valid question works out: first intervals, and refinements with the one that is refused.
+    /// Over all first intervals of a valid question, and its refinements with the one that is refused.
     pub fn of(sheet: &Sheet, q: usize, k: usize) -> Largest {
         let mut largest = Largest::default();
         for &place in &sheet.offices {

@@ -13,7 +13,7 @@ mod random;
 mod readings;
 mod truth;
 
-use crate::rules::refusal::REFUSALS;
+use crate::rules::refusal::refusals;
 use crate::tally::Tally;
 use std::panic::{catch_unwind, AssertUnwindSafe};
 
@@ -54,7 +54,7 @@ fn part(tally: &mut Tally, name: &str, test: impl FnOnce(&mut Tally)) {
 fn all_were_met(tally: &mut Tally) {
     let listings = tally.listings;
     tally.claim(listings >= LISTINGS_LEAST, || format!("only {listings} listings"));
-    for &number in REFUSALS {
+    for number in refusals() {
         let times = tally.times(number);
         tally.claim(times >= REFUSALS_LEAST, || format!("refused {number} was met {times} times"));
     }

@@ -9,7 +9,7 @@ use lib.Dec.{ltb}
 use lib.ListN.{length, set, length-set}
 use lib.Seq.{getD-set-other}
 use Rattle.mintree.specs.Mintree.{Played, Least, Same}
-use Rattle.paper.specs.Sizes.{mostOffices, endMost}
+use Rattle.paper.specs.Sizes.{mostOffices, endBelow}
 use Rattle.paper.specs.Trail.{Trail}
 use Rattle.paper.specs.Listing.{Slot, at, lowOf, retired}
 use Rattle.paper.specs.Bounds.{Sane}
@@ -48,7 +48,7 @@ module _ {places₀ n : ℕ} {w : List ℕ} (W : Waiting places₀ n w) (r : ℕ
   pub take-fits : sideWords * (r % mostOffices) + sideWords ≤ length w
   take-fits = omega (arith, take-inside, W .shown .long)
 
-  pub take-high : (t : Trail) → Side w (r % mostOffices) t → t .high < endMost
+  pub take-high : (t : Trail) → Side w (r % mostOffices) t → t .high < endBelow
   take-high t X =
       let S : Shown places₀ n w (W .slots) = W .shown in
       let i : ℕ = L .at in

@@ -37,7 +37,7 @@ module _ {m : Map} {x : Quest} {k : ℕ} (L : LaidOut m) (T : Truth m) (A : Aske
       let (long, named) = choose (λ i n. Named m (x .to i) (x .from i) n) 0 (x .count) (λ i p. named-exists L T (x .from i) (x .to i) (A .leaves i p) (A .ends i p)) in
       let (first, starts) = choose (λ i t. start m (x .from i) (x .to i) ≡ served t) (noSlot .trail) (x .count)
       (λ i p. let (t, e, s) = taken (Sound m (x .to i) (dist i) (long i)) (start m (x .from i) (x .to i))
-      (start-sound L T (x .from i) (x .to i) (dist i) (long i) (A .leaves i p) (A .ends i p) (isD i p) (named i p)) in (t, e)) in
+      (start-sound T (x .from i) (x .to i) (dist i) (long i) (A .leaves i p) (A .ends i p) (isD i p) (named i p)) in (t, e)) in
       record { dist = dist; isD = isD; long = long; named = named; first = first; starts = starts }
 
   module _ (s : Seen m x) where
@@ -46,7 +46,7 @@ module _ {m : Map} {x : Quest} {k : ℕ} (L : LaidOut m) (T : Truth m) (A : Aske
 
     first-sound : (i : ℕ) → i < x .count → Sound m (x .to i) (s .dist i) (s .long i) (s .first i)
     first-sound i p = subst (Holds (Sound m (x .to i) (s .dist i) (s .long i))) (s .starts i p)
-        (start-sound L T (x .from i) (x .to i) (s .dist i) (s .long i) (A .leaves i p) (A .ends i p) (s .isD i p) (s .named i p))
+        (start-sound T (x .from i) (x .to i) (s .dist i) (s .long i) (A .leaves i p) (A .ends i p) (s .isD i p) (s .named i p))
 
     begin-inv : (ss : List Slot) → Begun (λ i t. t ≡ s .first i) (x .count) ss → Inv s k (begin ss)
     begin-inv ss B = record {

@@ -21,9 +21,9 @@ use Rattle.paper.specs.Listing.{State, at, lineAt, lineOf, walkedOn, ste
 use Rattle.paper.specs.Answer.{Asked}
 use Rattle.paper.specs.Bounds.{Bounded, Met, first, next, Sane, Summed, Within, LineWithin, ListedWithin}
 use Rattle.paper.proofs.LaidOut.{Grounded, LaidOut}
-use Rattle.paper.proofs.Holds.{On, on-if, on-then, on-map, on-itself, given}
+use Rattle.paper.proofs.Holds.{On, Any, on-if, on-then, on-map, on-itself, given}
 use Rattle.paper.proofs.Block.{BlockOf, block-of}
-use Rattle.paper.proofs.Ends.{Any, between-bounded}
+use Rattle.paper.proofs.Ends.{between-bounded}
 use Rattle.paper.proofs.Count.{sum-most}
 use Rattle.paper.proofs.Slots.{set-all, snoc-all, retired-trail}
 use Rattle.paper.proofs.Fair.{Fair, Ended, inside, step-on, listing-on}

@@ -1,12 +1,12 @@
--- The ends that a map's blocks give are below 100,000,000,000; those of a true map hold the road distance.
-use Prim.Native.Nat.{ℕ, _^_, _≤_, _<_}
+-- The ends that a map's blocks give are at most those of the largest ratio over the longest diagonal, and so below 100,000,000,000; those of a true map hold the road distance.
+use Prim.Native.Nat.{ℕ, _+_, _-_, _*_, _/_, _≤_, _<_}
 use native.Mathlib.Omega.{arith}
 use native.Mathlib.Nat.{mul-le-mul}
 use mathlib.Core.Path.{_≡_, refl}
 use mathlib.Core.Option.{Option, some, none}
 use lib.Dec.{eqb}
 use borrow.Author.Tests.{eqb-true, eqb-false}
-use Rattle.paper.specs.Sizes.{crowMost}
+use Rattle.paper.specs.Sizes.{ratioUnit, ratioMost, crowMost}
 use Rattle.paper.specs.Map.{Map}
 use Rattle.paper.specs.Crow.{crow}
 use Rattle.paper.specs.Block.{blockOf}
@@ -15,27 +15,31 @@ use Rattle.paper.specs.Truth.{Truth, Told}
 use Rattle.paper.proofs.LaidOut.{Grounded}
 use Rattle.paper.specs.Trail.{Ends, between, endsBy}
 use Rattle.paper.specs.Bounds.{Bounded}
-use Rattle.paper.proofs.Holds.{On, Holds, on-if}
+use Rattle.paper.proofs.Holds.{On, Any, Holds, on-if, on-map}
 use Rattle.paper.proofs.Block.{BlockOf, block-of}
 use Rattle.paper.proofs.Crow.{crow-le}
 
--- of a refusal nothing is asked
-abbrev pub Any : ℕ → Type 0
-Any n = Unit {0}
+-- both ends are at most those of the largest ratio over the longest crow distance
+pub record Most (e : Ends) : Type 0 where
+  pub low : e .low ≤ (ratioMost * crowMost + (ratioUnit - 1)) / ratioUnit
+  pub high : e .high ≤ ratioMost * crowMost / ratioUnit
 
 module _ {m : Map} (G : Grounded m) (u v : ℕ) (hu : u < m .places) (hv : v < m .places) where
-  ends-bounded : (r : Option ℕ) → blockOf m u v ≡ r → On Any Bounded (endsBy m u v r)
-  ends-bounded none e = tt
-  ends-bounded (some b) e =
+  ends-most : (r : Option ℕ) → blockOf m u v ≡ r → On Any Most (endsBy m u v r)
+  ends-most none e = tt
+  ends-most (some b) e =
       let B : BlockOf m u v (m .blocks) b = block-of m u v b e in
-      let h : m .high b ≤ 2 ^ 32 = omega (arith, G .ratios b (B .under)) in
-      let l : m .low b ≤ 2 ^ 32 = omega (arith, G .ordered b (B .under)) in
+      let h : m .high b ≤ ratioMost = omega (arith, G .ratios b (B .under)) in
+      let l : m .low b ≤ ratioMost = omega (arith, G .ordered b (B .under)) in
       let c : crow m u v ≤ crowMost = crow-le G u v hu hv in
       omega (arith, mul-le-mul h c, mul-le-mul l c)
 
-  pub between-bounded : On Any Bounded (between m u v)
+  pub between-most : On Any Most (between m u v)
   unfolding between
-  between-bounded = on-if Any Bounded (eqb u v) _ _ (λ e. omega arith) (λ e. ends-bounded (blockOf m u v) refl)
+  between-most = on-if Any Most (eqb u v) _ _ (λ e. omega arith) (λ e. ends-most (blockOf m u v) refl)
+
+  pub between-bounded : On Any Bounded (between m u v)
+  between-bounded = on-map Any Most Bounded (between m u v) between-most (λ e M. omega (arith, M .low, M .high))
 
 pub at-home : {m : Map} {v d : ℕ} → IsD m v v d → d ≡ 0
 at-home D = omega (arith, D .least 0 arrived)

@@ -344,5 +344,9 @@ lawful s bytes h =
       blocked = P .blocks;
     }
 
+pub offices-few : (s : List ℕ) → layout s ≡ 0 → officesOf s .count ≤ mostOffices
+unfolding officesOf
+offices-few s h = passed s h .whole .offices .most
+
 pub laid-out : (s : List ℕ) → Bytes s → layout s ≡ 0 → LaidOut (mapOf s)
 laid-out s bytes h = lawful-laid (lawful s bytes h)

@@ -1,5 +1,7 @@
--- The largest high end that the layout rules allow is met, and a refinement that adds to it: what `sheet-within` asks of a sheet and of a walk can be had.
-use Prim.Native.Nat.{ℕ, _+_}
+-- The largest numbers of a walk: what the bounds come to, and a sheet on which the largest high end is met and a refinement adds to it, so that what
+-- `sheet-within` asks of a sheet and of a walk can be had.
+use Prim.Native.Nat.{ℕ, _+_, _≤_, _<_}
+use native.Mathlib.Omega.{arith}
 use mathlib.Core.Path.{_≡_, refl}
 use mathlib.Core.List.{List, [], _∷_}
 use lib.Dec.{ltb}
@@ -18,7 +20,20 @@ use Rattle.paper.specs.Words.{asBytes}
 use Rattle.paper.specs.Trail.{Ends, between, Trail, start}
 use Rattle.paper.specs.Bounds.{Met, first, Summed}
 use Rattle.paper.proofs.Test.{every-true}
+use Rattle.paper.proofs.Holds.{Any, given}
+use Rattle.paper.proofs.Laid.{laid-out}
+use Rattle.paper.proofs.Ends.{Most, between-most}
 use Rattle.paper.proofs.Bounds.{sheet-within}
+
+road-largest : roadMost ≡ 67042305
+road-largest = refl
+
+-- no end is larger, before the walked length is added
+pub ends-largest : (s : List ℕ) → Bytes s → layout s ≡ 0 → (u v : ℕ) → u < mapOf s .places → v < mapOf s .places
+    → (e : Ends) → between (mapOf s) u v ≡ served e → (e .low ≤ 97085554666) × (e .high ≤ 97085554665)
+ends-largest s bytes h u v hu hv e q =
+    let M : Most e = given Any Most (between (mapOf s) u v) e q (between-most (laid-out s bytes h .ground) u v hu hv) in
+    (omega (arith, M .low), omega (arith, M .high))
 
 -- three places, two of them at opposite corners, a stage from each, and a block for each with the ratios 0 and 2^32 - 1
 corners : List ℕ
@@ -61,6 +76,3 @@ unfolding blockOf stageOf mapOf word corners asBytes
 corners-summed =
     sheet-within corners corners-bytes corners-laid 1 2 (ltb-true 1 3 refl) (ltb-true 2 3 refl)
     .sums trail corners-met (ltb-true 1 3 refl) 1 refl widest corners-widest
-
-road-largest : roadMost ≡ 67042305
-road-largest = refl

@@ -1,14 +1,15 @@
 -- The question on an accepted sheet, and its slices on any sheet.
-use Prim.Native.Nat.{ℕ, zero, suc, _+_, _*_, _≤_, _<_}
+use Prim.Native.Nat.{ℕ, zero, suc, _+_, _*_, _/_, _%_, _≤_, _<_}
 use native.Mathlib.Omega.{arith}
-use mathlib.Core.Path.{_≡_, refl, sym, ap, _∙_}
+use native.Mathlib.Nat.{mul-le-mul}
+use mathlib.Core.Path.{_≡_, refl, sym, ap, subst, _∙_}
 use mathlib.Core.Bool.{Bool, true}
 use mathlib.Core.List.{List, [], _∷_, _++_}
 use lib.Dec.{leb, ltb}
 use lib.ListN.{length, getD, drop, length-append, length-drop, List·getD-append}
 use lib.Seq.{getD-drop, drop-append-seam}
 use borrow.Author.Tests.{leb-true, ltb-true}
-use Rattle.paper.specs.Sizes.{lineWords, slotWords}
+use Rattle.paper.specs.Sizes.{lineWords, slotWords, mostOffices, endBelow}
 use Rattle.paper.specs.Test.{both, due, orElse}
 use Rattle.paper.specs.Served.{Served, refused, served}
 use Rattle.paper.specs.Map.{Map, Offices}
@@ -19,15 +20,14 @@ use Rattle.paper.specs.Layout.{Bytes, layout, officesHold}
 use Rattle.paper.specs.Verdict.{AcceptedOn, Accepted}
 use Rattle.paper.specs.Listing.{Line, State, lineAt, listing}
 use Rattle.paper.specs.Answer.{Asked}
-use Rattle.paper.specs.Bounds.{ListedWithin}
+use Rattle.paper.specs.Bounds.{LineWithin, ListedWithin, WordsBelow}
 use Rattle.paper.specs.Reply.{Reply, invalid, ValidOn, Valid, lineOut, linesOut, walkOut, replyBy, replyOn, reply, endOf, endedOn, questOf, AnsweredOn, Answered}
-use Rattle.paper.proofs.Holds.{On}
+use Rattle.paper.proofs.Holds.{On, Any}
 use Rattle.paper.proofs.Test.{both-left, both-right, due-true, or-left, or-right, or-zero, or-most, due-most}
-use Rattle.paper.proofs.Laid.{passed, laid-out, offices-stand}
+use Rattle.paper.proofs.Laid.{passed, laid-out, offices-stand, offices-few}
 use Rattle.paper.proofs.Cleared.{cleared-size}
 use Rattle.paper.proofs.Walk.{Walk}
 use Rattle.paper.proofs.Fair.{Ended, listing-ends}
-use Rattle.paper.proofs.Ends.{Any}
 use Rattle.paper.proofs.Bounds.{listing-within}
 use Rattle.paper.proofs.Answer.{seen, answered}
 
@@ -160,6 +160,50 @@ lines-word (l ∷ ls) r zero j p q =
 lines-word (l ∷ ls) r (suc a) j p q =
     let e : lineWords * suc a + j ≡ lineWords + (lineWords * a + j) = omega arith in
     rw e (append-past (lineOut l) (linesOut ls ++ r) (lineWords * a + j) ∙ lines-word ls r a j (omega arith) q)
+
+-- every word that is written is below 100,000,000,000
+module _ {m : Map} (x : Quest) (L : LaidOut m) (few : x .count ≤ mostOffices) where
+  line-below : (l : Line) → LineWithin m x l → (j : ℕ) → j < lineWords → getD (lineOut l) j 0 < endBelow
+  line-below l W zero p = omega (arith, W .office)
+  line-below l W (suc zero) p = omega (arith, W .ordered, W .high)
+  line-below l W (suc (suc zero)) p = W .high
+  line-below l W (suc (suc (suc zero))) p = omega (arith, W .stages, L .ground .places)
+  line-below l W (suc (suc (suc (suc j)))) p = absurd (omega arith)
+
+  lines-below : (ls : List Line) → ((a : ℕ) → a < length ls → LineWithin m x (lineAt ls a)) → (r : List ℕ) (i : ℕ) → i < lineWords * length ls → getD (linesOut ls ++ r) i 0 < endBelow
+  lines-below ls W r i p =
+      let a : ℕ = i / lineWords in
+      let j : ℕ = i % lineWords in
+      let e : lineWords * a + j ≡ i = omega arith in
+      subst (λ (n : ℕ). getD (linesOut ls ++ r) n 0 < endBelow) e
+      (rw (lines-word ls r a j (omega arith) (omega arith)) (line-below (lineAt ls a) (W a (omega arith)) j (omega arith)))
+
+  walk-below : (k : ℕ) → k ≤ x .count → (answer working : List ℕ) (r : Served State) → On Walk (Ended (m .places) (x .count) k (λ st. Unit {0})) r → On Any (ListedWithin m x) r
+      → walkOut (x .count) k answer working r .number ≡ 0 → WordsBelow k (walkOut (x .count) k answer working r)
+  walk-below k most answer working (refused n) W h e = absurd (omega (arith, W .least))
+  walk-below k most answer working (served st) E W e = record {
+    answer = λ i p. lines-below (st .lines) (W .lines) (drop (lineWords * k) answer) i (omega (arith, E .count));
+    count = omega arith;
+    refinements = omega (arith, W .total, mul-le-mul few (L .ground .places));
+  }
+
+-- of any sheet: what a question writes where it is not refused
+pub reply-below : (s : List ℕ) (q k : ℕ) (answer working : List ℕ) → Bytes s → reply s q k answer working .number ≡ 0 → WordsBelow k (reply s q k answer working)
+unfolding reply replyOn
+reply-below s q k answer working bytes = go (orElse (layout s) (invalid (mapOf s) (officesOf s) q k answer working)) refl
+  where
+    x : Quest
+    x = questOf s q
+
+    go : (n : ℕ) → orElse (layout s) (invalid (mapOf s) (officesOf s) q k answer working) ≡ n
+        → replyBy (mapOf s) x k answer working n .number ≡ 0 → WordsBelow k (replyBy (mapOf s) x k answer working n)
+    go (suc n) e h = absurd (omega arith)
+    go zero e h =
+        let laid : layout s ≡ 0 = or-left (layout s) _ e in
+        let fine : Valid s q k answer working = or-right (layout s) _ e in
+        let most : k ≤ officesOf s .count = valid (mapOf s) (officesOf s) q k answer working fine .enough in
+        walk-below x (laid-out s bytes laid) (offices-few s laid) k most answer working (listing (mapOf s) x k) (listing-ends (mapOf s) x k most)
+        (sheet-listed s q k answer working bytes laid fine) h
 
 -- how many words a reply leaves: as many as were lent
 pub record Kept (a w : List ℕ) (r : Reply) : Type 0 where

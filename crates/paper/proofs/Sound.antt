@@ -31,7 +31,7 @@ pub record Sound (m : Map) (v d n : ℕ) (t : Trail) : Type 0 where
 holds-tested : (P : Trail → Type 0) (t : Trail) → t .low ≤ t .high → P t → Holds P (tested t)
 holds-tested P t o p = on-true (λ n. ⊥) P (ordered t) _ _ (le-leb _ _ o) p
 
-module _ {m : Map} (L : LaidOut m) (T : Truth m) where
+module _ {m : Map} (T : Truth m) where
   pub start-sound : (u v d n : ℕ) → u < m .places → v < m .places → IsD m u v d → Named m v u n → Holds (Sound m v d n) (start m u v)
   unfolding start
   start-sound u v d n hu hv D r =
@@ -49,6 +49,7 @@ module _ {m : Map} (L : LaidOut m) (T : Truth m) where
         count = omega arith;
       }))
 
+module _ {m : Map} (L : LaidOut m) (T : Truth m) where
   pub refine-sound : (v d n : ℕ) (t : Trail) → v < m .places → n < m .places → t .low < t .high → Sound m v d n t → Holds (Sound m v d n) (refine m v t)
   unfolding refine
   refine-sound v d n t hv hn gap S =

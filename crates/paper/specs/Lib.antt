@@ -20,9 +20,9 @@ pub mod Trail
 pub mod Tested
 pub mod Quest
 pub mod Listing
-pub mod Bounds
 pub mod Answer
 pub mod Reply
+pub mod Bounds
 pub mod Marked
 pub mod Printed
 pub mod Words

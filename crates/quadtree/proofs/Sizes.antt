@@ -7,8 +7,8 @@ use Rattle.paper.specs.Sizes.{ratioUnit}
 use Rattle.paper.specs.Map.{Map}
 use Rattle.paper.specs.Trail.{Ends, between}
 use Rattle.paper.proofs.LaidOut.{Grounded}
-use Rattle.paper.proofs.Ends.{Any, between-bounded}
-use Rattle.paper.proofs.Holds.{given}
+use Rattle.paper.proofs.Ends.{between-bounded}
+use Rattle.paper.proofs.Holds.{Any, given}
 use Rattle.paper.specs.declared.Network.{Network}
 use Rattle.paper.specs.Bounds.{Bounded}
 use Rattle.quadtree.specs.declared.interval.Interval.the-variants as interval

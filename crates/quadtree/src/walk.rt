@@ -11,7 +11,7 @@ use paper::Network;
 use paper::Trail;
 use paper::furlongs;
 ghost use mathlib.Core.Path.{_≡_};
-ghost use Prim.Native.Nat.{_+_, _*_, _≤_, _<_};
+ghost use Prim.Native.Nat.{_+_, _≤_, _<_};
 ghost use lib.ListN.{length as lengthOf, getD};
 ghost use Rattle.paper.specs.Sizes.{mostPlaces, mostFurlongs};
 ghost use Rattle.paper.specs.Map.{Map};

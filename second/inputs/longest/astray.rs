@@ -31,13 +31,13 @@ fn round_and_round(last: u32) -> Vec<Question> {
     ]
 }
 
-/// Place 1, in the crowd's cell that is nearest to the last place, gives an interval of 22 lengths: the second time there
-/// 18 would be due, one refinement after 16 is.
+/// Place 1, in the crowd's cell that is nearest to the last place, gives an interval of 22 lengths. The refinement that
+/// would come there a second time is the one for which 16 is due; without 16 it would be refused by 18.
 fn too_long_before_empty() -> Case {
     let mut map = ring_past_the_last(crowd());
     map.places[1] = Place::at(31, 31);
     map.blocks[1].low = u32::MAX - 1;
-    astray("16 where 18 comes next", map, vec![refused(&[1_023, 1_023], (0, 1), WALK_TOO_LONG)])
+    astray("16 before 18", map, vec![refused(&[1_023, 1_023], (0, 1), WALK_TOO_LONG)])
 }
 
 /// Low ratios of place 0, where the walk from place 1 comes after 1,022 stages with 66,976,770 behind it. Its high end
