@@ -2,13 +2,13 @@
 use Prim.Native.Nat.{ℕ, _*_, _≤_}
 use native.Mathlib.Omega.{arith}
 use mathlib.Core.Path.{_≡_, ap, _∙_}
-use mathlib.Core.List.{List, _++_}
-use lib.ListN.{length, take, drop, length-append, List·getD-append}
+use mathlib.Core.List.{List}
+use lib.ListN.{length, take, drop}
 use lib.Seq.{take-at, drop-at, length-take-le}
 use Rattle.paper.specs.Sizes.{lineWords, longBytes}
 use Rattle.paper.specs.Served.{Served, served}
 use Rattle.paper.specs.Listing.{State}
-use Rattle.paper.specs.Words.{asBytes, written, Fit}
+use Rattle.paper.specs.Words.{asBytes, written}
 use Rattle.paper.specs.Reply.{linesOut}
 use Rattle.paper.proofs.Cleared.{untouched-drop}
 use Rattle.paper.proofs.Reply.{lines-size}
@@ -18,18 +18,15 @@ use Rattle.nearest.specs.declared.walk.Walked.{Walked}
 use Rattle.nearest.specs.declared.walk.Walked.the-variants as walked
 use Rattle.catalogue.specs.Handed.{CameOut}
 
-fit-front : (w : ℕ) (xs ys : List ℕ) → Fit w (xs ++ ys) → Fit w xs
-fit-front w xs ys F i p = rw (← List·getD-append xs ys 0 i p) (F i (omega (arith, length-append xs ys)))
-
 -- the first 4k words of the walk's own slice are in the answer
 module _ (k : ℕ) (r : Served State) (own own′ a a′ : List ℕ) (long : lineWords * k ≤ length own′) (room : longBytes * (lineWords * k) ≤ length a)
-    (whole : (st : State) → r ≡ served st → length (st .lines) ≡ k) (fits : Fit longBytes own′) (e : a′ ≡ written longBytes (take (lineWords * k) own′) a) where
+    (whole : (st : State) → r ≡ served st → length (st .lines) ≡ k) (e : a′ ≡ written longBytes (take (lineWords * k) own′) a) where
   size : length (take (lineWords * k) own′) ≡ lineWords * k
   size = length-take-le (lineWords * k) own′ long
 
   pub came-out : (x : Walked) → Came k r own own′ x → CameOut k r a a′ x
   came-out (walked.Done total) (st, ended, made, text) =
-      record { state = st; ended = ended; made = made; fits = fit-front longBytes lines rest (rw (← text) fits); bytes = e ∙ ap (λ (l : List ℕ). written longBytes l a) same }
+      record { state = st; ended = ended; made = made; bytes = e ∙ ap (λ (l : List ℕ). written longBytes l a) same }
     where
       lines : List ℕ
       lines = linesOut (st .lines)

@@ -1,8 +1,8 @@
 -- The reply that the code hands over is that of the definitions: refused before the walk, listed, or refused by the walk.
-use Prim.Native.Nat.{ℕ, zero, suc, _*_, _/_, _^_, _≤_, _<_}
+use Prim.Native.Nat.{ℕ, zero, suc, _*_, _/_, _≤_}
 use native.Mathlib.Omega.{arith}
 use mathlib.Core.Path.{_≡_, refl, sym, ap, subst, _∙_}
-use mathlib.Core.List.{List, [], _++_}
+use mathlib.Core.List.{List, _++_}
 use lib.ListN.{length, drop}
 use Rattle.paper.specs.Sizes.{lineWords, slotWords, longBytes}
 use Rattle.paper.specs.Served.{refused, served}
@@ -11,12 +11,12 @@ use Rattle.paper.specs.Quest.{Quest, outward}
 use Rattle.paper.specs.Sheet.{mapOf, officesOf}
 use Rattle.paper.specs.Layout.{Bytes, layout}
 use Rattle.paper.specs.Verdict.{Accepted}
-use Rattle.paper.specs.Listing.{State, begin, listing}
+use Rattle.paper.specs.Listing.{State, listing}
 use Rattle.paper.specs.Slice.{cleared}
 use Rattle.paper.specs.Test.{orElse}
-use Rattle.paper.specs.Words.{longsHeld, asBytes, written, Fit}
-use Rattle.paper.specs.Reply.{linesOut, walkOut, replyBy, endOf, endedOn, questOf, ListsNearest, RefinesThriftily, Answered}
-use Rattle.paper.specs.Host.{HostReply, counted, inBytes, hostInvalid, hostReplyOn, HostValidOn, Fitting, hostReply, HostValid, readBack}
+use Rattle.paper.specs.Words.{longsHeld, asBytes, written}
+use Rattle.paper.specs.Reply.{linesOut, walkOut, replyBy, ListsNearest, RefinesThriftily, Answered}
+use Rattle.paper.specs.Host.{HostReply, counted, inBytes, hostInvalid, hostReplyOn, HostValidOn, hostReply, HostValid, readBack}
 use Rattle.paper.proofs.Test.{or-first, or-next}
 use Rattle.paper.proofs.Reply.{Allowed, valid, lines-size}
 use Rattle.paper.proofs.Words.{words-size, written-same, written-front, written-cleared}
@@ -105,20 +105,6 @@ module _ (m : Map) (o : Offices) (q k : ℕ) (answer working counts : List ℕ) 
           sym (walked ∙ ap (λ r. inBytes answer working counts (walkOut (o .count) k (longsHeld answer) (longsHeld working) r)) e
           ∙ rw (longs-cleared (lineWords * k) answer a (host-lent .answers), ← C, ← zeroed, ← A) refl)
 
--- what the walk gives has room in 64 bits: a list, and a refusal, which gives nothing
-module _ (m : Map) (x : Quest) (k : ℕ) where
-  pub host-fitting : (st : State) → listing m x k ≡ served st → k < 256 ^ longBytes → Fit longBytes (linesOut (st .lines)) → st .total < 256 ^ longBytes → Fitting m x k
-  unfolding endedOn
-  host-fitting st e few F t =
-      let same : endedOn m x k ≡ st = ap endOf e in
-      record { count = few; lines = subst (λ (s : State). Fit longBytes (linesOut (s .lines))) (sym same) F; total = subst (λ (s : State). s .total < 256 ^ longBytes) (sym same) t }
-
-  pub fitting-refused : (r : ℕ) → listing m x k ≡ refused r → k < 256 ^ longBytes → Fitting m x k
-  unfolding endedOn linesOut
-  fitting-refused r e few =
-      let same : endedOn m x k ≡ begin [] = ap endOf e in
-      record { count = few; lines = subst (λ (s : State). Fit longBytes (linesOut (s .lines))) (sym same) (λ i p. absurd (omega arith)); total = subst (λ (s : State). s .total < 256 ^ longBytes) (sym same) (omega (arith, few)) }
-
 -- the entry's contract from the reply over the map and the list, for a sheet whose layout has nothing due
 module _ (s : List ℕ) (q k : ℕ) (answer working counts : List ℕ) where
   pub laid-host : (o : Offices) → layout s ≡ 0 → o ≡ officesOf s → (h : HostReply) → h ≡ hostReplyOn 0 (mapOf s) o q k answer working counts
@@ -140,9 +126,8 @@ module _ (s : List ℕ) (q k : ℕ) (answer working counts : List ℕ) where
       × (Accepted s → HostValid s q k answer working counts → ListsNearest s q k (longsHeld answer) (readBack h))
       × (Accepted s → HostValid s q k answer working counts → RefinesThriftily s q k (readBack h))
 
-  pub promised : Bytes s → Bytes answer → Bytes working → (h : HostReply) → h ≡ hostReply s q k answer working counts
-      → (Accepted s → HostValid s q k answer working counts → Fitting (mapOf s) (questOf s q) k) → Promised h
-  promised b a w h e fits = (e, λ A fine. said A fine .nearest, λ A fine. said A fine .thrifty)
+  pub promised : Bytes s → Bytes answer → Bytes working → (h : HostReply) → h ≡ hostReply s q k answer working counts → Promised h
+  promised b a w h e = (e, λ A fine. said A fine .nearest, λ A fine. said A fine .thrifty)
     where
       said : Accepted s → HostValid s q k answer working counts → Answered s q k (longsHeld answer) (readBack h)
-      said A fine = subst (λ (g : HostReply). Answered s q k (longsHeld answer) (readBack g)) (sym e) (host-answered s q k answer working counts b a w A fine (fits A fine))
+      said A fine = subst (λ (g : HostReply). Answered s q k (longsHeld answer) (readBack g)) (sym e) (host-answered s q k answer working counts b a w A fine)

@@ -7,7 +7,7 @@ use Rattle.paper.specs.Sizes.{lineWords, wordBytes, longBytes}
 use Rattle.paper.specs.Served.{Served, refused, served}
 use Rattle.paper.specs.Listing.{State}
 use Rattle.paper.specs.Slice.{Untouched}
-use Rattle.paper.specs.Words.{written, Fit}
+use Rattle.paper.specs.Words.{written}
 use Rattle.paper.specs.Reply.{linesOut}
 use Rattle.paper.specs.Host.{HostReply}
 use Rattle.truth.specs.Table.{Stored}
@@ -29,7 +29,6 @@ pub record ListedIn (r : Served State) (answer answer′ : List ℕ) (total : �
   pub state : State
   pub ended : r ≡ served state
   pub made : state .total ≡ total
-  pub fits : Fit longBytes (linesOut (state .lines))
   pub bytes : answer′ ≡ written longBytes (linesOut (state .lines)) answer
 
 -- bytes beyond those of k lines are as they were

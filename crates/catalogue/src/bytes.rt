@@ -7,7 +7,7 @@ ghost use Prim.Native.Nat.{ℕ, _+_, _*_, _≤_, _<_};
 ghost use lib.ListN.{length, take};
 ghost use Rattle.paper.specs.Sizes.{wordBytes, longBytes, mostPlaces};
 ghost use Rattle.paper.specs.Slice.{cleared};
-ghost use Rattle.paper.specs.Words.{bytesOf, written, Fit};
+ghost use Rattle.paper.specs.Words.{bytesOf, written};
 ghost use Rattle.text.specs.Put.{Put};
 ghost use Rattle.catalogue.specs.Handed.{StoredIn};
 
@@ -41,7 +41,6 @@ pub fn put_long(bytes: &mut [u8], at: usize, x: u64)
 pub fn put_longs(bytes: &mut [u8], words: &[u64], n: usize)
     requires { ⌜ (n ≤ length (now words)) × (longBytes * n ≤ length (now bytes)) ⌝ }
     ensures { λ _. ⌜ now (bytes .exit) ≡ written longBytes (take n (now (words .entry))) (now (bytes .entry)) ⌝ }
-    ensures { λ _. ⌜ Fit longBytes (now (words .entry)) ⌝ }
 {
     for i in 0..n {
         put_long(bytes, LONG_BYTES * i, words[i]);

@@ -8,7 +8,7 @@ use mathlib.Core.List.{List, [], _∷_}
 use lib.Dec.{leb}
 use lib.ListN.{length, getD, drop, replicate}
 use borrow.Author.Tests.{leb-true, le-leb, lt-leb}
-use Rattle.paper.specs.Sizes.{lineWords, slotWords, wordBytes, longBytes, countsBytes}
+use Rattle.paper.specs.Sizes.{lineWords, slotWords, mostOffices, wordBytes, longBytes, countsBytes}
 use Rattle.paper.specs.Test.{due, orElse}
 use Rattle.paper.specs.Served.{Served, refused, served}
 use Rattle.paper.specs.Map.{Map, Offices}
@@ -18,13 +18,16 @@ use Rattle.paper.specs.Layout.{Bytes, layout}
 use Rattle.paper.specs.Slice.{cleared}
 use Rattle.paper.specs.Verdict.{area, AcceptedOn, Accepted}
 use Rattle.paper.specs.Listing.{State, listing}
-use Rattle.paper.specs.Reply.{Reply, invalid, Valid, linesOut, walkOut, replyBy, replyOn, reply, endOf, endedOn, questOf, Answered}
+use Rattle.paper.specs.Reply.{Reply, invalid, Valid, linesOut, walkOut, replyBy, replyOn, reply, questOf, Answered}
+use Rattle.paper.specs.Bounds.{ListedWithin, WordsBelow}
 use Rattle.paper.specs.Words.{numberIn, wordsOf, longsHeld, written, Fit}
-use Rattle.paper.specs.Host.{HostCheckedOn, HostReply, countedBy, counted, inBytes, hostInvalid, hostReplyOn, hostReply, HostValidOn, HostValid, readBack, Fitting}
+use Rattle.paper.specs.Host.{HostCheckedOn, HostReply, countedBy, counted, inBytes, hostInvalid, hostReplyOn, hostReply, HostValidOn, HostValid, readBack}
 use Rattle.paper.proofs.LaidOut.{LaidOut}
 use Rattle.paper.proofs.Test.{or-first, or-next, or-left, or-right, or-zero, due-true}
 use Rattle.paper.proofs.Checked.{checked-one, checked-truth}
-use Rattle.paper.proofs.Reply.{Kept, reply-answered, reply-kept}
+use Rattle.paper.proofs.Holds.{On, Any}
+use Rattle.paper.proofs.Laid.{laid-out, offices-few}
+use Rattle.paper.proofs.Reply.{Kept, valid as allowed, lines-below, total-below, sheet-listed, reply-answered, reply-below, reply-kept}
 use Rattle.paper.proofs.Words.{words-size, written-size, words-fit, fit-drop, fit-append, fit-zeros, written-back}
 
 -- any two outcomes of a check are equal: the number, and every byte of the slice
@@ -122,41 +125,71 @@ read-back answer working counts r room K R =
 fit-cleared : (n : ℕ) (words : List ℕ) → Fit longBytes words → Fit longBytes (cleared n words)
 fit-cleared n words F = fit-append longBytes (replicate n 0) (drop n words) (fit-zeros longBytes n) (fit-drop longBytes n words F)
 
-walk-fits : (m : Map) (x : Quest) (n k : ℕ) (a w : List ℕ) → Fit longBytes a → Fit longBytes w → Fitting m x k → WordsFit (walkOut n k a w (listing m x k))
-unfolding endedOn
-walk-fits m x n k a w F G T = go (listing m x k) (T .lines) (T .total)
-  where
-    some : 0 < 256 ^ longBytes
-    some = omega (arith, T .count)
+-- what a walk on a map that keeps the rules leaves
+walk-fits : {m : Map} (x : Quest) (k : ℕ) (a w : List ℕ) → LaidOut m → x .count ≤ mostOffices → k ≤ x .count → Fit longBytes a → Fit longBytes w
+    → (r : Served State) → On Any (ListedWithin m x) r → WordsFit (walkOut (x .count) k a w r)
+walk-fits x k a w L few most F G (refused n) W = record {
+  count = omega arith;
+  refinements = omega arith;
+  answer = fit-cleared (lineWords * k) a F;
+  working = fit-cleared (slotWords * x .count) w G;
+}
+walk-fits x k a w L few most F G (served st) W = record {
+  count = omega arith;
+  refinements = omega (arith, total-below x L few st W);
+  answer = fit-append longBytes (linesOut (st .lines)) (drop (lineWords * k) a) (λ i p. omega (arith, lines-below x L few (st .lines) (W .lines) i p)) (fit-drop longBytes (lineWords * k) a F);
+  working = fit-cleared (slotWords * x .count) w G;
+}
 
-    go : (r : Served State) → Fit longBytes (linesOut (endOf r .lines)) → endOf r .total < 256 ^ longBytes → WordsFit (walkOut n k a w r)
-    go (refused i) L t = record { count = some; refinements = some; answer = fit-cleared (lineWords * k) a F; working = fit-cleared (slotWords * n) w G }
-    go (served st) L t = record {
-      count = T .count;
-      refinements = t;
-      answer = fit-append longBytes (linesOut (st .lines)) (drop (lineWords * k) a) L (fit-drop longBytes (lineWords * k) a F);
-      working = fit-cleared (slotWords * n) w G;
-    }
-
--- on an accepted sheet, what a host reads after a valid question
+-- what a host reads in its slices
 module _ (s : List ℕ) (q k : ℕ) (answer working counts : List ℕ) (sheet : Bytes s) (a : Bytes answer) (w : Bytes working) where
+  abbrev hosted : HostReply
+  hosted = hostReply s q k answer working counts
+
+  abbrev inWords : Reply
+  inWords = reply s q k (longsHeld answer) (longsHeld working)
+
   held-fits : (b : List ℕ) → Bytes b → Fit longBytes (longsHeld b)
   held-fits b B = words-fit longBytes (length b / longBytes) b B (omega arith)
 
-  pub host-answered : Accepted s → HostValid s q k answer working counts → Fitting (mapOf s) (questOf s q) k
-      → Answered s q k (longsHeld answer) (readBack (hostReply s q k answer working counts))
+  -- after a valid question on any sheet whose layout holds: the reply in words, no number of which is cut by its 64 bits
+  pub host-read : layout s ≡ 0 → HostValid s q k answer working counts → readBack hosted ≡ inWords
   unfolding hostReply reply replyOn
-  host-answered A valid T =
-      subst (Answered s q k (longsHeld answer)) (sym (ap (λ (h : HostReply). readBack h) (host-words (layout s) (mapOf s) (officesOf s) q k answer working counts valid) ∙ same))
-      (reply-answered s q k (longsHeld answer) (longsHeld working) sheet A none)
+  host-read laid valid =
+      ap (λ (h : HostReply). readBack h) (host-words (layout s) (mapOf s) (officesOf s) q k answer working counts valid)
+      ∙ read-back answer working counts inWords (host-room (layout s) (mapOf s) (officesOf s) q k answer working counts valid) (reply-kept s q k (longsHeld answer) (longsHeld working))
+      (subst WordsFit (sym walked) (walk-fits x k _ _ (laid-out s sheet laid) (offices-few s laid) most (held-fits answer a) (held-fits working w) (listing (mapOf s) x k) (sheet-listed s q k (longsHeld answer) (longsHeld working) sheet laid none)))
     where
+      x : Quest
+      x = questOf s q
+
       none : Valid s q k (longsHeld answer) (longsHeld working)
       none = host-valid (layout s) (mapOf s) (officesOf s) q k answer working counts valid
 
-      walked : reply s q k (longsHeld answer) (longsHeld working) ≡ walkOut (officesOf s .count) k (longsHeld answer) (longsHeld working) (listing (mapOf s) (questOf s q) k)
-      walked = ap (replyBy (mapOf s) (questOf s q) k (longsHeld answer) (longsHeld working)) (or-zero (layout s) _ (A .laid) none)
+      most : k ≤ officesOf s .count
+      most = allowed (mapOf s) (officesOf s) q k (longsHeld answer) (longsHeld working) none .enough
 
-      same : readBack (inBytes answer working counts (reply s q k (longsHeld answer) (longsHeld working))) ≡ reply s q k (longsHeld answer) (longsHeld working)
-      same =
-          read-back answer working counts _ (host-room (layout s) (mapOf s) (officesOf s) q k answer working counts valid) (reply-kept s q k (longsHeld answer) (longsHeld working))
-          (subst WordsFit (sym walked) (walk-fits (mapOf s) (questOf s q) (officesOf s .count) k _ _ (held-fits answer a) (held-fits working w) T))
+      walked : inWords ≡ walkOut (officesOf s .count) k (longsHeld answer) (longsHeld working) (listing (mapOf s) x k)
+      walked = ap (replyBy (mapOf s) x k (longsHeld answer) (longsHeld working)) (or-zero (layout s) _ laid none)
+
+  -- on an accepted sheet, what a valid question promises
+  pub host-answered : Accepted s → HostValid s q k answer working counts → Answered s q k (longsHeld answer) (readBack hosted)
+  host-answered A valid =
+      subst (Answered s q k (longsHeld answer)) (sym (host-read (A .laid) valid))
+      (reply-answered s q k (longsHeld answer) (longsHeld working) sheet A (host-valid (layout s) (mapOf s) (officesOf s) q k answer working counts valid))
+
+  -- on any sheet, where the question is not refused
+  pub host-below : hosted .number ≡ 0 → WordsBelow k (readBack hosted)
+  unfolding hostReply hostReplyOn
+  host-below h =
+      let none : early ≡ 0 = go early h in
+      let laid : layout s ≡ 0 = or-left (layout s) _ none in
+      let same : readBack hosted ≡ inWords = host-read laid (or-right (layout s) _ none) in
+      subst (WordsBelow k) (sym same) (reply-below s q k (longsHeld answer) (longsHeld working) sheet (sym (ap (λ (r : Reply). r .number) same) ∙ h))
+    where
+      early : ℕ
+      early = orElse (layout s) (hostInvalid (mapOf s) (officesOf s) q k answer working counts)
+
+      go : (n : ℕ) → replyBy (mapOf s) (questOf s q) k (longsHeld answer) (longsHeld working) n .number ≡ 0 → n ≡ 0
+      go zero e = refl
+      go (suc n) e = absurd (omega arith)

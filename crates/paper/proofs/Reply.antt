@@ -170,21 +170,28 @@ module _ {m : Map} (x : Quest) (L : LaidOut m) (few : x .count ≤ mostOffices) 
   line-below l W (suc (suc (suc zero))) p = omega (arith, W .stages, L .ground .places)
   line-below l W (suc (suc (suc (suc j)))) p = absurd (omega arith)
 
-  lines-below : (ls : List Line) → ((a : ℕ) → a < length ls → LineWithin m x (lineAt ls a)) → (r : List ℕ) (i : ℕ) → i < lineWords * length ls → getD (linesOut ls ++ r) i 0 < endBelow
-  lines-below ls W r i p =
+  pub lines-below : (ls : List Line) → ((a : ℕ) → a < length ls → LineWithin m x (lineAt ls a)) → (i : ℕ) → i < length (linesOut ls) → getD (linesOut ls) i 0 < endBelow
+  lines-below ls W i p =
       let a : ℕ = i / lineWords in
       let j : ℕ = i % lineWords in
+      let h : a < length ls = omega (arith, lines-size ls) in
       let e : lineWords * a + j ≡ i = omega arith in
-      subst (λ (n : ℕ). getD (linesOut ls ++ r) n 0 < endBelow) e
-      (rw (lines-word ls r a j (omega arith) (omega arith)) (line-below (lineAt ls a) (W a (omega arith)) j (omega arith)))
+      let f : getD (linesOut ls ++ []) i 0 < endBelow =
+      subst (λ (n : ℕ). getD (linesOut ls ++ []) n 0 < endBelow) e (rw (lines-word ls [] a j h (omega arith)) (line-below (lineAt ls a) (W a h) j (omega arith))) in
+      rw (List·getD-append (linesOut ls) [] 0 i p) at f
+
+  pub total-below : (st : State) → ListedWithin m x st → st .total < endBelow
+  total-below st W = omega (arith, W .total, mul-le-mul few (L .ground .places))
 
   walk-below : (k : ℕ) → k ≤ x .count → (answer working : List ℕ) (r : Served State) → On Walk (Ended (m .places) (x .count) k (λ st. Unit {0})) r → On Any (ListedWithin m x) r
       → walkOut (x .count) k answer working r .number ≡ 0 → WordsBelow k (walkOut (x .count) k answer working r)
   walk-below k most answer working (refused n) W h e = absurd (omega (arith, W .least))
   walk-below k most answer working (served st) E W e = record {
-    answer = λ i p. lines-below (st .lines) (W .lines) (drop (lineWords * k) answer) i (omega (arith, E .count));
+    answer = λ i p.
+        let h : i < length (linesOut (st .lines)) = omega (arith, E .count, lines-size (st .lines)) in
+        rw (List·getD-append (linesOut (st .lines)) (drop (lineWords * k) answer) 0 i h) (lines-below (st .lines) (W .lines) i h);
     count = omega arith;
-    refinements = omega (arith, W .total, mul-le-mul few (L .ground .places));
+    refinements = total-below st W;
   }
 
 -- of any sheet: what a question writes where it is not refused

@@ -1,5 +1,5 @@
 -- What the catalogue, a program in C, lends and gets back: the outcomes of document 01, over the words that stand in its bytes.
-use Prim.Native.Nat.{ℕ, _^_, _<_}
+use Prim.Native.Nat.{ℕ}
 use mathlib.Core.Path.{_≡_}
 use mathlib.Core.Bool.{Bool, true, false}
 use mathlib.Core.List.{List, [], _∷_}
@@ -8,12 +8,12 @@ use lib.ListN.{length, drop}
 use Rattle.paper.specs.Sizes.{wordBytes, longBytes, countsBytes}
 use Rattle.paper.specs.Test.{due, orElse}
 use Rattle.paper.specs.Map.{Map, Offices}
-use Rattle.paper.specs.Quest.{Quest, outward}
+use Rattle.paper.specs.Quest.{outward}
 use Rattle.paper.specs.Sheet.{mapOf, officesOf}
 use Rattle.paper.specs.Layout.{layout}
 use Rattle.paper.specs.Verdict.{CheckedOn}
-use Rattle.paper.specs.Reply.{Reply, invalid, linesOut, replyBy, endedOn}
-use Rattle.paper.specs.Words.{numberIn, wordsHeld, longsHeld, written, Fit}
+use Rattle.paper.specs.Reply.{Reply, invalid, replyBy}
+use Rattle.paper.specs.Words.{numberIn, wordsHeld, longsHeld, written}
 
 -- how a check ends: its number, and the bytes that it was lent, at entry and at exit
 pub record HostCheckedOn (laid : ℕ) (m : Map) (before : List ℕ) (number : ℕ) (after : List ℕ) : Type 0 where
@@ -69,12 +69,6 @@ readBack h = record {
   answer = longsHeld (h .answer);
   working = longsHeld (h .working);
 }
-
--- what a listing of k offices gives has room in words of 64 bits
-pub record Fitting (m : Map) (x : Quest) (k : ℕ) : Type 0 where
-  pub count : k < 256 ^ longBytes
-  pub lines : Fit longBytes (linesOut (endedOn m x k .lines))
-  pub total : endedOn m x k .total < 256 ^ longBytes
 
 -- the same of an ordinary sheet
 abbrev pub HostChecked : List ℕ → List ℕ → ℕ → List ℕ → Type 0

@@ -5,14 +5,11 @@ use Prim.Native.Nat.{ℕ, _-_}
 use native.Mathlib.Omega.{arith}
 use lib.ListN.{length, take, drop}
 use borrow.Author.Needs.{needs}
-use Rattle.paper.specs.Map.{Offices}
-use Rattle.paper.specs.Quest.{outward}
-use Rattle.paper.specs.Sheet.{mapOf, officesIn, officesOf}
+use Rattle.paper.specs.Sheet.{officesIn, officesOf}
 use Rattle.paper.specs.Layout.{Bytes, layout}
-use Rattle.paper.specs.Host.{HostValidOn, Fitting}
 use Rattle.sheet.specs.Laid.{countsOf, listFrom}
 use Rattle.sheet.specs.Ground.{Roll}
-use Rattle.sheet.proofs.Room.{room, laid-counts, laid-number, offices-end}
+use Rattle.sheet.proofs.Room.{room, laid-counts, offices-end}
 use Rattle.sheet.proofs.Grounds.{rest-is, list-offices, sectioned, laid-mapped, laid-roll}
 use Rattle.catalogue.proofs.Replied.{laid-host, refused-host, promised}
 use Rattle.catalogue.proofs.atlas_question.Statement.{statement}
@@ -104,9 +101,8 @@ returns c =
     let l = laid d in
     let s = begin l in
     let (e, n) = out (d .before) in
-    let rules = laid-host _ (s .args .q) (s .args .k) _ _ _ _ e (offices d) _ (x .ask .ensures .0) in
-    let fits = subst (λ (o : Offices). HostValidOn (mapOf (s .args .sheet .now)) o (s .args .q) (s .args .k) (s .args .answer .now) (s .args .working .now) (s .args .counts .now) → Fitting (mapOf (s .args .sheet .now)) (outward o (s .args .q)) (s .args .k)) (offices d) (x .ask .ensures .1) in
-    let (first, near, thrift) = promised _ (s .args .q) (s .args .k) _ _ (s .args .counts .now) (bytes l) (answers l) (works l) _ rules (λ A fine. fits fine) in
+    let rules = laid-host _ (s .args .q) (s .args .k) _ _ _ _ e (offices d) _ (x .ask .ensures) in
+    let (first, near, thrift) = promised _ (s .args .q) (s .args .k) _ _ (s .args .counts .now) (bytes l) (answers l) (works l) _ rules in
     (first, (near, thrift))
 
 same-length-4 : tie.Need-same-length-4
@@ -119,9 +115,8 @@ returns-2 c =
     let l = t .before .before .before in
     let s = begin l in
     let refused = sym (t .before .laid2 .given .1) ∙ l .layout .ensures in
-    let rules = refused-host _ (s .args .q) (s .args .k) _ _ _ _ _ (answers l) (works l) refused (p .put-counts .ensures .0) in
-    let (n, same, number) = laid-number _ _ refused in
-    let (first, near, thrift) = promised _ (s .args .q) (s .args .k) _ _ (s .args .counts .now) (bytes l) (answers l) (works l) _ rules (λ A fine. absurd (omega (arith, A .laid, number))) in
+    let rules = refused-host _ (s .args .q) (s .args .k) _ _ _ _ _ (answers l) (works l) refused (p .put-counts .ensures) in
+    let (first, near, thrift) = promised _ (s .args .q) (s .args .k) _ _ (s .args .counts .now) (bytes l) (answers l) (works l) _ rules in
     (first, (near, thrift))
 
 pub atlas-question-spec : {M : Type 1} → statement M

@@ -12,7 +12,7 @@ use Rattle.paper.proofs.Fair.{listing-count}
 use Rattle.sheet.proofs.Grounds.{roll-count}
 use Rattle.nearest.specs.declared.walk.Walked.{Walked}
 use Rattle.catalogue.specs.Handed.{CameOut}
-use Rattle.catalogue.proofs.Replied.{Lent, host-lent, host-invalid, host-done, host-refused, host-fitting, fitting-refused}
+use Rattle.catalogue.proofs.Replied.{Lent, host-lent, host-invalid, host-done, host-refused}
 use Rattle.catalogue.proofs.answer.ask.Statement.{statement}
 use Rattle.catalogue.proofs.answer.ask.Tie as tie
 
@@ -90,7 +90,7 @@ returns c =
     let p = c .before .before in
     let t = p .before .before in
     let i = t .before in
-    (host-invalid _ _ _ _ _ _ _ (answers i) (works i) _ (tested i) (t .if1 .taken) _ (p .put-counts .ensures .0), λ fine. absurd (t .if1 .taken (tested i ∙ fine)))
+    host-invalid _ _ _ _ _ _ _ (answers i) (works i) _ (tested i) (t .if1 .taken) _ (p .put-counts .ensures)
 
 list-lines-requires : tie.Need-list-lines-requires
 list-lines-requires c κs =
@@ -154,10 +154,8 @@ returns-2 c =
     let i = e .before in
     let s = begin i in
     let E = ended l _ (t .before .ended .given .1) in
-    let size = listing-count (mapOf (s .args .ground .now)) (outward (officesIn (s .args .list .now)) (s .args .q)) (s .args .k) (lent e .enough) (E .state) (E .ended) in (
-      host-done _ _ _ _ _ _ _ (answers i) (works i) (valid e) _ (offices s) _ (d .clear .ensures) (E .state) _ _ _ (E .ended) (E .made) size (E .bytes) (p .put-counts2 .ensures .0),
-      λ fine. host-fitting _ _ _ (E .state) (E .ended) (p .put-counts2 .ensures .1 .0) (E .fits) (rw (E .made) (p .put-counts2 .ensures .1 .1)),
-    )
+    let size = listing-count (mapOf (s .args .ground .now)) (outward (officesIn (s .args .list .now)) (s .args .q)) (s .args .k) (lent e .enough) (E .state) (E .ended) in
+    host-done _ _ _ _ _ _ _ (answers i) (works i) (valid e) _ (offices s) _ (d .clear .ensures) (E .state) _ _ _ (E .ended) (E .made) size (E .bytes) (p .put-counts2 .ensures)
 
 same-length-7 : tie.Need-same-length-7
 same-length-7 c = search needs
@@ -178,10 +176,8 @@ returns-3 c =
     let e = listed l in
     let i = e .before in
     let s = begin i in
-    let E = ended l _ (t .before .ended2 .given .1) in (
-      host-refused _ _ _ _ _ _ _ (answers i) (works i) (valid e) _ (offices s) _ (d .clear .ensures) _ _ _ (E .0) (r .clear2 .ensures ∙ cleared-same _ _ _ (E .1 .long) (E .1 .rest)) (p .put-counts3 .ensures .0),
-      λ fine. fitting-refused _ _ _ _ (E .0) (omega (arith, s .fits)),
-    )
+    let E = ended l _ (t .before .ended2 .given .1) in
+    host-refused _ _ _ _ _ _ _ (answers i) (works i) (valid e) _ (offices s) _ (d .clear .ensures) _ _ _ (E .0) (r .clear2 .ensures ∙ cleared-same _ _ _ (E .1 .long) (E .1 .rest)) (p .put-counts3 .ensures)
 
 pub ask-spec : {M : Type 1} → statement M
 ask-spec =

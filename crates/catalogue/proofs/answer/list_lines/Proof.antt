@@ -65,7 +65,7 @@ returns c =
     let p = s .pre .1 in
     came-out (s .args .k) _ (replicate linesMost 0) _ _ _ (omega (arith, lines-long w, p .3, p .0 .few)) (p .4)
     (listing-count (mapOf (s .args .ground .now)) (outward (officesIn (s .args .list .now)) (s .args .q)) (s .args .k) (omega (arith, p .3, roll-count (p .0))))
-    (l .put-longs .ensures .1) (l .put-longs .ensures .0) (w .walk-mapped .result) (w .walk-mapped .ensures .1)
+    (l .put-longs .ensures) (w .walk-mapped .result) (w .walk-mapped .ensures .1)
 
 pub list-lines-spec : {M : Type 1} → statement M
 list-lines-spec =

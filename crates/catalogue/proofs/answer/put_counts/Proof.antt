@@ -12,11 +12,8 @@ use Rattle.catalogue.proofs.answer.put_counts.Tie as tie
 abbrev first : tie.After-put-long2 → tie.After-put-long
 first c = c .before .before .before .before
 
-abbrev begin : tie.After-put-long → tie.Start
-begin c = c .before .before .before .before
-
 returns : tie.Need-returns
-returns c = (sym (counted-short _ _ _ (c .if1 .taken)), let f = c .before .before .fits in (omega (arith, f), omega (arith, f)))
+returns c = sym (counted-short _ _ _ (c .if1 .taken))
 
 put-long-requires : tie.Need-put-long-requires
 put-long-requires c κs = search needs
@@ -31,8 +28,7 @@ returns-2 : tie.Need-returns-2
 returns-2 c =
     let q = c .before .before in
     let p = first q in
-    let f = begin p .fits in
-    (put-both _ _ _ _ _ (p .before .before .if1 .left) (p .put-long .ensures) (q .put-long2 .ensures), (omega (arith, f), omega (arith, f)))
+    put-both _ _ _ _ _ (p .before .before .if1 .left) (p .put-long .ensures) (q .put-long2 .ensures)
 
 pub put-counts-spec : {M : Type 1} → statement M
 put-counts-spec =

@@ -74,7 +74,7 @@ returns c =
     let b = c .before in
     let s = begin b in
     let e : b .loop .i ≡ s .args .n = omega (arith, b .loop .inv .0) in
-    (b .loop .inv .1 ∙ ap (λ (i : ℕ). written longBytes (take i (s .args .words .now)) (s .args .bytes .now)) e, λ i p. omega (arith, b .before .shared-slice-known .given i))
+    b .loop .inv .1 ∙ ap (λ (i : ℕ). written longBytes (take i (s .args .words .now)) (s .args .bytes .now)) e
 
 pub put-longs-spec : {M : Type 1} → statement M
 put-longs-spec =
