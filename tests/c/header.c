@@ -26,6 +26,7 @@ static void numbers(void)
     unsigned int number;
     for (number = 0; number < sizeof named / sizeof *named; number++)
         expect(named[number] == number, "each number stands under its name");
+    expect(number == ATLAS_WALK_EMPTY + 1, "no number is left out");
     expect(ATLAS_LISTED == 0, "0 is also a list");
 }
 

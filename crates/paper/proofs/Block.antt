@@ -11,8 +11,9 @@ use borrow.Author.Tests.{eqb-true, leb-true, ltb-true}
 use Rattle.paper.specs.Test.{both}
 use Rattle.paper.specs.Map.{Map}
 use Rattle.paper.specs.Cell.{cell}
+use Rattle.paper.specs.Stage.{stageOf}
 use Rattle.paper.specs.Block.{covers, blockBelow, blockOf}
-use Rattle.paper.proofs.LaidOut.{Grounded}
+use Rattle.paper.proofs.LaidOut.{Grounded, LaidOut}
 use Rattle.paper.proofs.Test.{true-false, both-left, both-right}
 use Rattle.paper.proofs.Count.{below-all}
 
@@ -57,6 +58,10 @@ found m u v (suc i) = go (covers m u v i) refl (blockBelow m u v i) (found m u v
 pub block-of : (m : Map) (u v b : ℕ) → blockOf m u v ≡ some b → BlockOf m u v (m .blocks) b
 unfolding blockOf
 block-of m u v b e = subst (Found m u v (m .blocks)) e (found m u v (m .blocks))
+
+-- the stage that u's block for v names is one of the map's
+pub named-under : {m : Map} → LaidOut m → (u v b : ℕ) → blockOf m u v ≡ some b → stageOf m u (m .colour b) < m .stages
+named-under {m} L u v b e = let B : BlockOf m u v (m .blocks) b = block-of m u v b e in rw (B .owner) at (L .colours b (B .under))
 
 pub block-none : (m : Map) (u v : ℕ) → blockOf m u v ≡ none → (b : ℕ) → b < m .blocks → covers m u v b ≡ false
 unfolding blockOf

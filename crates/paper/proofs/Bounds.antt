@@ -19,10 +19,10 @@ use Rattle.paper.specs.Quest.{Quest}
 use Rattle.paper.specs.Trail.{Ends, between, Trail, ordered, tested, fresh, start, onward, onwardBy, refine}
 use Rattle.paper.specs.Listing.{State, at, lineAt, lineOf, walkedOn, step, listing}
 use Rattle.paper.specs.Answer.{Asked}
-use Rattle.paper.specs.Bounds.{Bounded, Met, first, next, Sane, Summed, Within, LineWithin, ListedWithin}
+use Rattle.paper.specs.Bounds.{Bounded, Met, first, next, Sane, Summed, WalkWithin, LineWithin, ListedWithin}
 use Rattle.paper.proofs.LaidOut.{Grounded, LaidOut}
 use Rattle.paper.proofs.Holds.{On, Any, on-if, on-then, on-map, on-itself, given}
-use Rattle.paper.proofs.Block.{BlockOf, block-of}
+use Rattle.paper.proofs.Block.{named-under}
 use Rattle.paper.proofs.Ends.{between-bounded}
 use Rattle.paper.proofs.Count.{sum-most}
 use Rattle.paper.proofs.Slots.{set-all, snoc-all, retired-trail}
@@ -47,10 +47,6 @@ start-sane {m} G u v t p q e =
     given Any (Sane (m .places)) (start m u v) t e
     (on-then Any Bounded (Sane (m .places)) (between m u v) _ (between-bounded G u v p q)
     (λ x B. tested-sane (m .places) (fresh u x) (λ o. record { via = p; stages = omega arith; walked = omega arith; ordered = o; high = B .high })))
-
--- the stage that the block of the via u names is one of the map's
-named-under : {m : Map} → LaidOut m → (u v b : ℕ) → blockOf m u v ≡ some b → stageOf m u (m .colour b) < m .stages
-named-under {m} L u v b e = let B : BlockOf m u v (m .blocks) b = block-of m u v b e in rw (B .owner) at (L .colours b (B .under))
 
 pub refine-sane : {m : Map} → LaidOut m → (v : ℕ) → v < m .places → (t t′ : Trail) → Sane (m .places) t → refine m v t ≡ served t′ → Sane (m .places) t′
 unfolding refine
@@ -78,7 +74,7 @@ module _ {m : Map} (L : LaidOut m) (u v : ℕ) (hu : u < m .places) (hv : v < m 
   met-sane t (first e) = start-sane (L .ground) u v t hu hv e
   met-sane t (next {t = s} p e) = refine-sane L v hv s t (met-sane s p) e
 
-  pub walk-within : Within m u v
+  pub walk-within : WalkWithin m u v
   walk-within = record {
     ends = λ e q. given Any Bounded (between m u v) e q (between-bounded (L .ground) u v hu hv);
     trails = met-sane;
@@ -92,7 +88,7 @@ module _ {m : Map} (L : LaidOut m) (u v : ℕ) (hu : u < m .places) (hv : v < m 
 -- the listing of a quest between places of such a map: each step keeps its trails and its lines within
 module _ {m : Map} {x : Quest} {k : ℕ} (L : LaidOut m) (A : Asked m x k) where
   -- trails and lines on the way; the total follows from the stages walked
-  record Going (st : State) : Type 0 where
+  record Underway (st : State) : Type 0 where
     trails : (i : ℕ) → i < x .count → Met m (x .from i) (x .to i) (at (st .slots) i .trail)
     lines : (a : ℕ) → a < length (st .lines) → LineWithin m x (lineAt (st .lines) a)
 
@@ -101,15 +97,15 @@ module _ {m : Map} {x : Quest} {k : ℕ} (L : LaidOut m) (A : Asked m x k) where
       let S : Sane (m .places) t = met-sane L (x .from i) (x .to i) (A .leaves i p) (A .ends i p) t M in
       record { office = p; ordered = S .ordered; high = S .high; stages = S .stages }
 
-  keeps : (st : State) → Fair (m .places) (x .count) st → Going st → length (st .lines) < k → On Any Going (step m x st)
+  keeps : (st : State) → Fair (m .places) (x .count) st → Underway st → length (st .lines) < k → On Any Underway (step m x st)
   keeps st F G lt =
-      step-on m x Any Going st F (omega (arith, A .enough))
+      step-on m x Any Underway st F (omega (arith, A .enough))
       (λ i D c. record {
         trails = λ j p. rw (retired-trail (st .slots) i (inside m x st F i D) j) (G .trails j p);
         lines = snoc-all (λ a l. LineWithin m x l) (st .lines) (lineOf x i (at (st .slots) i .trail)) (G .lines) (line-within i (D .here) (at (st .slots) i .trail) (G .trails i (D .here)));
       })
       (λ i D c. let t : Trail = at (st .slots) i .trail in
-      on-map Any (λ t′. refine m (x .to i) t ≡ served t′) (λ t′. Going (walkedOn st i t′)) (refine m (x .to i) t) (on-itself (refine m (x .to i) t)) (λ t′ e. record {
+      on-map Any (λ t′. refine m (x .to i) t ≡ served t′) (λ t′. Underway (walkedOn st i t′)) (refine m (x .to i) t) (on-itself (refine m (x .to i) t)) (λ t′ e. record {
         trails = set-all (λ j s. j < x .count → Met m (x .from j) (x .to j) (s .trail)) (st .slots) i (record { trail = t′; waits = true }) (inside m x st F i D)
             (λ p. next (G .trails i p) e) (λ j ne. G .trails j);
         lines = G .lines;
@@ -117,8 +113,8 @@ module _ {m : Map} {x : Quest} {k : ℕ} (L : LaidOut m) (A : Asked m x k) where
 
   pub listing-within : On Any (ListedWithin m x) (listing m x k)
   listing-within =
-      on-map Any (Ended (m .places) (x .count) k Going) (ListedWithin m x) (listing m x k)
-      (listing-on m x Any (λ i t. Met m (x .from i) (x .to i) t) Going k (A .enough)
+      on-map Any (Ended (m .places) (x .count) k Underway) (ListedWithin m x) (listing m x k)
+      (listing-on m x Any (λ i t. Met m (x .from i) (x .to i) t) Underway k (A .enough)
       (λ i p. on-map Any (λ t. start m (x .from i) (x .to i) ≡ served t) (Met m (x .from i) (x .to i)) (start m (x .from i) (x .to i)) (on-itself (start m (x .from i) (x .to i))) (λ t e. first e))
       (λ ss B. record { trails = B .each; lines = λ a p. absurd (omega arith) })
       keeps)
@@ -129,5 +125,5 @@ module _ {m : Map} {x : Quest} {k : ℕ} (L : LaidOut m) (A : Asked m x k) where
       })
 
 -- the same of a sheet that the layout rules pass
-pub sheet-within : (s : List ℕ) → Bytes s → layout s ≡ 0 → (u v : ℕ) → u < mapOf s .places → v < mapOf s .places → Within (mapOf s) u v
+pub sheet-within : (s : List ℕ) → Bytes s → layout s ≡ 0 → (u v : ℕ) → u < mapOf s .places → v < mapOf s .places → WalkWithin (mapOf s) u v
 sheet-within s bytes h = walk-within (laid-out s bytes h)

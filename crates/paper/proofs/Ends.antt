@@ -1,4 +1,5 @@
--- The ends that a map's blocks give are at most those of the largest ratio over the longest diagonal, and so below 100,000,000,000; those of a true map hold the road distance.
+-- The ends that a map's blocks give are at most those of the largest ratio over the longest diagonal, and so below 100,000,000,000; those of a true map
+-- hold the road distance.
 use Prim.Native.Nat.{ℕ, _+_, _-_, _*_, _/_, _≤_, _<_}
 use native.Mathlib.Omega.{arith}
 use native.Mathlib.Nat.{mul-le-mul}

@@ -11,7 +11,7 @@ use Rattle.paper.specs.Road.{IsD}
 use Rattle.paper.specs.Truth.{Truth, Told, Reach}
 use Rattle.paper.proofs.LaidOut.{LaidOut}
 use Rattle.paper.specs.Named.{Named, home, leave, nextBy}
-use Rattle.paper.proofs.Block.{BlockOf, block-of}
+use Rattle.paper.proofs.Block.{named-under}
 use Rattle.paper.proofs.Road.{distance-one}
 use Rattle.paper.proofs.Count.{choose, rank, rank-lt, rank-top}
 
@@ -42,8 +42,7 @@ module _ {m : Map} (L : LaidOut m) (T : Truth m) where
   leaving u v d hu hv D ne =
       let w : Told m u v = T .told u v hu hv ne in
       let i : ℕ = stageOf m u (m .colour (w .block)) in
-      let B : BlockOf m u v (m .blocks) (w .block) = block-of m u v (w .block) (w .covered) in
-      let in-range : i < m .stages = rw (B .owner) at (L .colours (w .block) (B .under)) in
+      let in-range : i < m .stages = named-under L u v (w .block) (w .covered) in
       let placed : m .head i < m .places = L .heads i in-range in
       let r : Reach m (m .head i) v = T .reach (m .head i) v placed hv in
       record {

@@ -13,7 +13,7 @@ use Rattle.paper.specs.Road.{Road, arrived, along}
 use Rattle.paper.proofs.LaidOut.{LaidOut}
 use Rattle.paper.specs.Verdict.{verdict, Distances}
 use Rattle.paper.proofs.Test.{both-left, both-right, every-true}
-use Rattle.paper.proofs.Block.{BlockOf, block-of}
+use Rattle.paper.proofs.Block.{BlockOf, block-of, named-under}
 use Rattle.paper.proofs.Road.{road-least}
 use Rattle.paper.proofs.Verdict.{Pair, pair, verdict-pair}
 
@@ -48,7 +48,7 @@ module _ {m : Map} (L : LaidOut m) (d : ℕ → ℕ → ℕ) (h : settled m d �
           let P : Pair m d u v = pair m d u v ne (verdict-pair m d g u v hu hv) in
           let B : BlockOf m u v (m .blocks) (P .block) = block-of m u v (P .block) (P .covered) in
           let i : ℕ = stageOf m u (m .colour (P .block)) in
-          let in-range : i < m .stages = rw (B .owner) at (L .colours (P .block) (B .under)) in
+          let in-range : i < m .stages = named-under L u v (P .block) (P .covered) in
           let leaves : m .tail i ≡ u = rw (B .owner) at (L .leaves (P .block) (B .under)) in
           rw (P .colour) at (along i in-range leaves (rest (m .head i) (L .heads i in-range) (omega (arith, L .long i in-range))))
 

@@ -17,7 +17,7 @@ use Rattle.paper.specs.Truth.{Truth, Told, Used}
 use Rattle.paper.proofs.LaidOut.{LaidOut}
 use Rattle.paper.specs.Verdict.{faultBy, fault, firstFault, useful, verdict, Distances}
 use Rattle.paper.proofs.Test.{both-true, both-left, both-right, every-true, every-of, any-true, any-of, due-true, due-zero, or-left, or-right, or-zero, first-zero, first-of, first-same}
-use Rattle.paper.proofs.Block.{BlockOf, block-of}
+use Rattle.paper.proofs.Block.{named-under}
 use Rattle.paper.proofs.Road.{distance-one}
 
 -- nothing is due for u and v, u not v
@@ -102,9 +102,7 @@ module _ (m : Map) (d : ℕ → ℕ → ℕ) where
 module _ {m : Map} (L : LaidOut m) where
   -- the stage that a block of u names leads to a place
   pub led : (u v b : ℕ) → blockOf m u v ≡ some b → m .head (stageOf m u (m .colour b)) < m .places
-  led u v b e =
-      let B : BlockOf m u v (m .blocks) b = block-of m u v b e in
-      L .heads (stageOf m u (m .colour b)) (rw (B .owner) at (L .colours b (B .under)))
+  led u v b e = L .heads (stageOf m u (m .colour b)) (named-under L u v b e)
 
   module _ (d : ℕ → ℕ → ℕ) (D : Distances m d) where
     pub verdict-truth : verdict m d ≡ 0 → Truth m

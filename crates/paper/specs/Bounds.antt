@@ -39,7 +39,7 @@ pub record Summed (w : ℕ) (e : Ends) : Type 0 where
 
 -- of a walk from u to v: the ends between them; its trails, and as one number the length that each has walked; and what a refinement adds up, where neither
 -- 16 nor 17 is due for it
-pub record Within (m : Map) (u v : ℕ) : Type 0 where
+pub record WalkWithin (m : Map) (u v : ℕ) : Type 0 where
   pub ends : (e : Ends) → between m u v ≡ served e → Bounded e
   pub trails : (t : Trail) → Met m u v t → Sane (m .places) t
   pub walked : (t : Trail) → Met m u v t → t .walked ≤ roadMost
