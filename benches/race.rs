@@ -19,7 +19,7 @@ const THREAD_TIME: i32 = 3;
 
 fn thread_seconds() -> f64 {
     let mut time = Time { seconds: 0, nanoseconds: 0 };
-    // SAFETY: the pointer is to a timespec as x86-64 Linux has it, for the call to fill.
+    // SAFETY: the pointer is to a timespec as Linux has it on x86-64 and Arm, for the call to fill.
     let status = unsafe { clock_gettime(THREAD_TIME, &mut time) };
     assert!(status == 0, "the thread's time cannot be read: {}", io::Error::last_os_error());
     time.seconds as f64 + time.nanoseconds as f64 * 1e-9

@@ -8,7 +8,7 @@ use std::slice;
 
 const PAGE: usize = 4_096;
 
-// The values of Linux on x86-64.
+// The values of Linux on x86-64 and Arm.
 const NO_ACCESS: i32 = 0;
 const READ_AND_WRITE: i32 = 1 | 2;
 const PRIVATE_ANONYMOUS: i32 = 0x02 | 0x20;

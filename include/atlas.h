@@ -2,8 +2,8 @@
    question is refused by a number. What is said here of numbers and of bytes is proved of both functions (docs/CONTRACTS.md);
    the stack is measured.
 
-   ./library proves and builds libatlas.a and puts it beside this file. It needs x86-64 with the calling
-   convention of Linux (System V), and the C library, and nothing else:
+   ./library proves and builds libatlas.a and puts it beside this file, for the processor of the machine that builds it: x86-64 or
+   Arm (aarch64), with the calling convention of Linux. It needs the C library, and nothing else:
 
        cc -Iinclude -o host host.c include/libatlas.a
 
