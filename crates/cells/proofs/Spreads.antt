@@ -1,27 +1,19 @@
--- The rule of a spread table, proved at all of its entries by one test that the checker computes.
+-- The rule of the spread, proved at every coordinate by one test that the checker computes.
+use Prim.Native.Nat.{ℕ, _<_}
 use mathlib.Core.Path.{_≡_}
 use mathlib.Core.Bool.{Bool, true}
-use mathlib.Core.List.{List, [], _∷_}
-use Prim.Native.Nat.{ℕ, zero, suc, _+_, _<_}
-use native.Mathlib.Omega.{arith}
-use native.Mathlib.Nat.{add-zero, add-suc, suc-add}
 use lib.Dec.{eqb}
-use lib.ListN.{length, getD}
 use borrow.Author.Tests.{eqb-true}
-use Rattle.paper.specs.Test.{both}
+use Rattle.paper.specs.Sizes.{gridSide}
+use Rattle.paper.specs.Test.{every}
 use Rattle.paper.specs.Cell.{spread}
-use Rattle.paper.proofs.Test.{both-left, both-right}
+use Rattle.paper.proofs.Test.{every-true}
+use Rattle.cells.specs.Cells.{movedApart, MovedApart}
 
--- each entry is the spread of its place, counted from i
-abbrev pub spreads : ℕ → List ℕ → Bool
-spreads i [] = true
-spreads i (x ∷ xs) = both (eqb x (spread i)) (spreads (suc i) xs)
+-- every coordinate, moved apart four times by these bits and masks, is spread
+abbrev pub spreads : (s₁ k₁ s₂ k₂ s₃ k₃ s₄ k₄ : ℕ) → Bool
+spreads s₁ k₁ s₂ k₂ s₃ k₃ s₄ k₄ = every gridSide (λ x. eqb (movedApart s₄ k₄ (movedApart s₃ k₃ (movedApart s₂ k₂ (movedApart s₁ k₁ x)))) (spread x))
 
-from : (xs : List ℕ) (i : ℕ) → spreads i xs ≡ true → (k : ℕ) → k < length xs → getD xs k 0 ≡ spread (i + k)
-from [] i t k h = absurd (omega arith)
-from (x ∷ xs) i t zero h = rw add-zero (eqb-true _ _ (both-left (eqb x (spread i)) (spreads (suc i) xs) t))
-from (x ∷ xs) i t (suc k) h =
-    rw (add-suc, ← suc-add) (from xs (suc i) (both-right (eqb x (spread i)) (spreads (suc i) xs) t) k (omega arith))
-
-pub at : (xs : List ℕ) → spreads 0 xs ≡ true → (k : ℕ) → k < length xs → getD xs k 0 ≡ spread k
-at xs t k h = let e : 0 + k ≡ k = omega arith in rw e at (from xs 0 t k h)
+pub spread-is : {s₁ k₁ s₂ k₂ s₃ k₃ s₄ k₄ x a b c r : ℕ} → MovedApart s₁ k₁ x a → MovedApart s₂ k₂ a b → MovedApart s₃ k₃ b c → MovedApart s₄ k₄ c r
+    → x < gridSide → spreads s₁ k₁ s₂ k₂ s₃ k₃ s₄ k₄ ≡ true → r ≡ spread x
+spread-is A B C R h t = rw (R .is, C .is, B .is, A .is) (eqb-true _ _ (every-true gridSide _ t _ h))

@@ -1,5 +1,7 @@
--- What the contracts ask of a cell, and of a number whose root is sought.
-use Prim.Native.Nat.{ℕ, _*_, _<_}
+-- What the contracts ask of a cell, and of a number whose root is sought; and the step by which a coordinate is spread.
+use Prim.Native.Nat.{ℕ, _*_, _%_, _^_, _<_}
+use mathlib.Core.Path.{_≡_}
+use lib.Bits.{bitAnd, bitOr}
 use Rattle.paper.specs.Sizes.{gridSide, crowUnit}
 use Rattle.paper.specs.declared.Cell.{Cell}
 
@@ -7,6 +9,14 @@ use Rattle.paper.specs.declared.Cell.{Cell}
 pub record OnGrid (c : Cell) : Type 0 where
   pub x : c .x < gridSide
   pub y : c .y < gridSide
+
+-- in 32 bits: x beside x moved up by s bits, of which the bits of k are kept
+abbrev pub movedApart : ℕ → ℕ → ℕ → ℕ
+movedApart s k x = bitAnd (bitOr x (x * 2 ^ s % 2 ^ 32)) k
+
+-- r is that: a record, so that a proof can tell s and k from the code
+pub record MovedApart (s k x r : ℕ) : Type 0 where
+  pub is : r ≡ movedApart s k x
 
 -- every crow distance is below it: it is at most the sum of the gaps, each below the grid's side
 abbrev pub rootLimit : ℕ

@@ -3,15 +3,12 @@ use paper::Cell;
 use paper::Spatial;
 use paper::sizes::CROW_UNIT;
 use paper::sizes::GRID_SIDE;
-
-mod table;
-
 ghost use mathlib.Core.Path.{_≡_};
 ghost use Prim.Native.Nat.{_*_, _^_, _<_, _≤_};
 ghost use Rattle.paper.specs.Sizes.{gridSide, topLevel};
 ghost use Rattle.paper.specs.Cell.{spread as spreadOf, codeOf};
 ghost use Rattle.paper.specs.Crow.{Root, gap as gapOf, crowAcross};
-ghost use Rattle.cells.specs.Cells.{OnGrid, rootLimit};
+ghost use Rattle.cells.specs.Cells.{OnGrid, MovedApart, rootLimit};
 
 // A crow distance counts in parts of a cell's side, so its square in squares of them.
 const CROW_SCALE: u64 = CROW_UNIT * CROW_UNIT;
@@ -19,12 +16,23 @@ const CROW_SCALE: u64 = CROW_UNIT * CROW_UNIT;
 // Every root that is asked for is below it: a crow distance is at most the sum of two gaps, each below the grid's side.
 const ROOT_LIMIT: u64 = CROW_UNIT * (2 * GRID_SIDE as u64);
 
-// Bit b of x at bit 2b.
+// x beside x moved up by some bits, of which those of `kept` stay.
+fn apart(x: u32, by: u32, kept: u32) -> u32
+    requires { ⌜ by < 32 ⌝ }
+    ensures { λ r. ⌜ MovedApart by kept x r ⌝ }
+{
+    (x | x << by) & kept
+}
+
+// Bit b of x at bit 2b: the groups of eight bits are moved apart, then in each the groups of four, of two, and the single bits.
 pub fn spread(x: u32) -> u32
     requires { ⌜ x < gridSide ⌝ }
     ensures { λ r. ⌜ r ≡ spreadOf x ⌝ }
 {
-    table::SPREAD[x as usize]
+    let eights = apart(x, 8, 0x00FF00FF);
+    let fours = apart(eights, 4, 0x0F0F0F0F);
+    let twos = apart(fours, 2, 0x33333333);
+    apart(twos, 1, 0x55555555)
 }
 
 // The code of a cell: x at its even bits, y at its odd ones.
