@@ -6,9 +6,8 @@ use std::ops::Range;
 use std::ptr;
 use std::slice;
 
-const PAGE: usize = 4_096;
-
 // The values of Linux on x86-64 and Arm.
+const PAGE_SIZE: i32 = 30;
 const NO_ACCESS: i32 = 0;
 const READ_AND_WRITE: i32 = 1 | 2;
 const PRIVATE_ANONYMOUS: i32 = 0x02 | 0x20;
@@ -17,6 +16,14 @@ extern "C" {
     fn mmap(at: *mut c_void, length: usize, access: i32, flags: i32, file: i32, offset: i64) -> *mut c_void;
     fn mprotect(at: *mut c_void, length: usize, access: i32) -> i32;
     fn munmap(at: *mut c_void, length: usize) -> i32;
+    fn sysconf(name: i32) -> i64;
+}
+
+/// How many bytes a page has: 4,096 on x86-64, and up to 65,536 on Arm.
+fn page() -> usize {
+    // SAFETY: it takes a number and gives one.
+    let bytes = unsafe { sysconf(PAGE_SIZE) };
+    usize::try_from(bytes).expect("a page has a size")
 }
 
 /// Where the unreadable page stands. Where it does not stand at the slice, some bytes beside the slice are watched.
@@ -56,13 +63,13 @@ unsafe impl Sync for Guarded {}
 
 impl Guarded {
     pub fn with_room(bytes: usize) -> Guarded {
-        let room = (bytes + ODD).next_multiple_of(PAGE);
+        let room = (bytes + ODD).next_multiple_of(page());
         // SAFETY: a new mapping; the pages between the first and the last are opened.
         let first = unsafe {
-            let whole = mmap(ptr::null_mut(), room + 2 * PAGE, NO_ACCESS, PRIVATE_ANONYMOUS, -1, 0);
+            let whole = mmap(ptr::null_mut(), room + 2 * page(), NO_ACCESS, PRIVATE_ANONYMOUS, -1, 0);
             // A mapping that fails gives the address -1, on no page's border.
-            assert!((whole as usize).is_multiple_of(PAGE), "no memory for a slice of {bytes} bytes");
-            let first = whole.cast::<u8>().add(PAGE);
+            assert!((whole as usize).is_multiple_of(page()), "no memory for a slice of {bytes} bytes");
+            let first = whole.cast::<u8>().add(page());
             assert!(mprotect(first.cast(), room, READ_AND_WRITE) == 0, "a page could not be opened");
             first
         };
@@ -139,7 +146,7 @@ impl Guarded {
 impl Drop for Guarded {
     fn drop(&mut self) {
         // SAFETY: the whole mapping, to which nothing refers any more.
-        let closed = unsafe { munmap(self.first.sub(PAGE).cast(), self.room + 2 * PAGE) };
+        let closed = unsafe { munmap(self.first.sub(page()).cast(), self.room + 2 * page()) };
         assert!(closed == 0, "a slice could not be given back");
     }
 }

@@ -10,7 +10,7 @@ use Rattle.paper.specs.Cell.{spread}
 use Rattle.paper.proofs.Test.{every-true}
 use Rattle.cells.specs.Cells.{movedApart, MovedApart}
 
--- every coordinate, moved apart four times by these bits and masks, is spread
+-- every coordinate, moved apart four times, is spread: by s₁ with k₁ kept, then by s₂ with k₂ kept, and so on
 abbrev pub spreads : (s₁ k₁ s₂ k₂ s₃ k₃ s₄ k₄ : ℕ) → Bool
 spreads s₁ k₁ s₂ k₂ s₃ k₃ s₄ k₄ = every gridSide (λ x. eqb (movedApart s₄ k₄ (movedApart s₃ k₃ (movedApart s₂ k₂ (movedApart s₁ k₁ x)))) (spread x))
 

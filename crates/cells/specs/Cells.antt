@@ -10,13 +10,13 @@ pub record OnGrid (c : Cell) : Type 0 where
   pub x : c .x < gridSide
   pub y : c .y < gridSide
 
--- in 32 bits: x beside x moved up by s bits, of which the bits of k are kept
-abbrev pub movedApart : ℕ → ℕ → ℕ → ℕ
-movedApart s k x = bitAnd (bitOr x (x * 2 ^ s % 2 ^ 32)) k
+-- in 32 bits: the bits of x, and those of x moved up, as far as they are kept
+abbrev pub movedApart : (by kept x : ℕ) → ℕ
+movedApart by kept x = bitAnd (bitOr x (x * 2 ^ by % 2 ^ 32)) kept
 
--- r is that: a record, so that a proof can tell s and k from the code
-pub record MovedApart (s k x r : ℕ) : Type 0 where
-  pub is : r ≡ movedApart s k x
+-- r is that: a record, so that a proof can tell the numbers from the code
+pub record MovedApart (by kept x r : ℕ) : Type 0 where
+  pub is : r ≡ movedApart by kept x
 
 -- every crow distance is below it: it is at most the sum of the gaps, each below the grid's side
 abbrev pub rootLimit : ℕ

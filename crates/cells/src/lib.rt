@@ -16,7 +16,7 @@ const CROW_SCALE: u64 = CROW_UNIT * CROW_UNIT;
 // Every root that is asked for is below it: a crow distance is at most the sum of two gaps, each below the grid's side.
 const ROOT_LIMIT: u64 = CROW_UNIT * (2 * GRID_SIDE as u64);
 
-// x beside x moved up by some bits, of which those of `kept` stay.
+// The bits of x, and those of x moved up, as far as they are among `kept`.
 fn apart(x: u32, by: u32, kept: u32) -> u32
     requires { ⌜ by < 32 ⌝ }
     ensures { λ r. ⌜ MovedApart by kept x r ⌝ }
