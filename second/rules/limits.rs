@@ -25,7 +25,8 @@ pub const LEAVING_MOST: usize = 8;
 
 // Lengths and ratios.
 pub const RATIO_UNIT: u64 = 1_024;
-pub const CROW_SCALE: u64 = 256;
+pub const CROW_UNIT: u64 = 16;
+pub const CROW_SCALE: u64 = CROW_UNIT * CROW_UNIT;
 
 // Slices lent to a question, in long words; a C host lends the counts too.
 pub const ANSWER_WORDS: usize = 4;

@@ -3,12 +3,12 @@ use Prim.Native.Nat.{ℕ, zero, suc, _+_, _*_, _/_, _-_, _^_, _≤_, _<_}
 use native.Mathlib.Omega.{arith}
 use native.Mathlib.Nat.{pow-suc, mul-le-mul}
 use mathlib.Core.Path.{_≡_}
-use Rattle.paper.specs.Sizes.{gridSide, topLevel, crowScale, crowMost}
+use Rattle.paper.specs.Sizes.{gridSide, topLevel, crowScale}
 use Rattle.paper.specs.Map.{Map}
 use Rattle.paper.specs.Cell.{spreadBits, spread, codeOf, cell}
 use Rattle.paper.specs.Crow.{Root, gap, crowAcross, crow}
 use Rattle.paper.specs.declared.Cell.{Cell}
-use Rattle.paper.proofs.Crow.{root-one, crow-law, gap-le, crow-most}
+use Rattle.paper.proofs.Crow.{root-one, crow-law, gap-le, crow-most, crow-longest}
 use Rattle.cells.specs.Cells.{OnGrid}
 
 -- f bits in every other place are at most 0101..01
@@ -30,8 +30,9 @@ pub code-lt : (x y : ℕ) → codeOf x y < 4 ^ topLevel
 unfolding codeOf
 code-lt x y = omega (arith, spread-lt x, spread-lt y)
 
-pub crow-le : (a b : Cell) → OnGrid a → OnGrid b → crowAcross (gap (a .x) (b .x)) (gap (a .y) (b .y)) ≤ crowMost
-crow-le a b A B = crow-most _ _ (gap-le (a .x) (b .x) (gridSide - 1) (A .x) (B .x)) (gap-le (a .y) (b .y) (gridSide - 1) (A .y) (B .y))
+-- a word holds the crow distance of two cells
+pub crow-fits : (a b : Cell) → OnGrid a → OnGrid b → crowAcross (gap (a .x) (b .x)) (gap (a .y) (b .y)) < 2 ^ 32
+crow-fits a b A B = omega (arith, crow-longest, crow-most _ _ (gap-le (a .x) (b .x) (gridSide - 1) (A .x) (B .x)) (gap-le (a .y) (b .y) (gridSide - 1) (A .y) (B .y)))
 
 -- a gap on the grid, squared
 pub gap-square : (a b d : ℕ) → a < gridSide → b < gridSide → d ≡ gap a b → d * d ≤ (gridSide - 1) * (gridSide - 1)

@@ -1,4 +1,5 @@
--- The crow distance is the largest whole number whose square is at most 256 × (dx² + dy²); between different places it is 16 to 23,147.
+-- The crow distance is the largest whole number whose square is at most crowScale × (dx² + dy²); between different places it is
+-- crowUnit to crowMost.
 use Prim.Native.Nat.{ℕ, zero, suc, _+_, _*_, _-_, _≤_, _<_}
 use native.Mathlib.Omega.{arith}
 use native.Mathlib.Nat.{mul-le-mul, mul-le-mul-left, mul-assoc, mul-left-comm, mul-add, add-mul, suc-mul}
@@ -7,21 +8,21 @@ use mathlib.Core.Path.{_≡_, refl, sym, ap, _∙_}
 use mathlib.Core.Bool.{Bool, true, false}
 use lib.Dec.{leb}
 use borrow.Author.Tests.{leb-true, leb-false}
-use Rattle.paper.specs.Sizes.{gridSide, crowUnit, crowScale, crowMost}
+use Rattle.paper.specs.Sizes.{gridSide, crowUnit, crowScale}
 use Rattle.paper.specs.Map.{Map}
-use Rattle.paper.specs.Crow.{Root, crow, crowAcross, gap, rootFrom}
+use Rattle.paper.specs.Crow.{Root, crow, crowAcross, crowMost, gap, rootFrom}
 use Rattle.paper.proofs.LaidOut.{Grounded}
 
-root-below : {n r r′ : ℕ} → Root n r → Root n r′ → r < r′ → ⊥
-root-below {r} {r′} R S p = omega (arith, R .next, S .square, mul-le-mul p p)
+-- of a larger number the root is no smaller
+root-le : {n n′ r r′ : ℕ} → n ≤ n′ → Root n r → Root n′ r′ → r ≤ r′
+root-le {r = r} {r′ = r′} h R S = go (decLt r′ r)
+  where
+    go : Dec (r′ < r) → r ≤ r′
+    go (yes p) = absurd (omega (arith, R .square, S .next, mul-le-mul p p))
+    go (no p) = omega arith
 
 pub root-one : {n r r′ : ℕ} → Root n r → Root n r′ → r ≡ r′
-root-one {r} {r′} R S = go (decLt r r′) (decLt r′ r)
-  where
-    go : Dec (r < r′) → Dec (r′ < r) → r ≡ r′
-    go (yes p) q = absurd (root-below R S p)
-    go (no p) (yes q) = absurd (root-below S R q)
-    go (no p) (no q) = omega arith
+root-one R S = omega (arith, root-le (omega arith) R S, root-le (omega arith) S R)
 
 pub root-law : (r n : ℕ) → n < suc r * suc r → Root n (rootFrom r n)
 unfolding rootFrom
@@ -57,13 +58,17 @@ gap-some : (a b : ℕ) → (a ≡ b → ⊥) → 1 ≤ gap a b
 unfolding gap
 gap-some a b h = omega arith
 
+-- over larger gaps it is no smaller
+crow-mono : (a b dx dy : ℕ) → a ≤ dx → b ≤ dy → crowAcross a b ≤ crowAcross dx dy
+crow-mono a b dx dy x y = root-le (omega (arith, mul-le-mul x x, mul-le-mul y y)) (crow-law a b) (crow-law dx dy)
+
 -- over gaps within the grid
 pub crow-most : (dx dy : ℕ) → dx ≤ gridSide - 1 → dy ≤ gridSide - 1 → crowAcross dx dy ≤ crowMost
-crow-most dx dy x y = go (decLt crowMost (crowAcross dx dy))
-  where
-    go : Dec (crowMost < crowAcross dx dy) → crowAcross dx dy ≤ crowMost
-    go (yes p) = absurd (omega (arith, crow-law dx dy .square, mul-le-mul p p, mul-le-mul x x, mul-le-mul y y))
-    go (no p) = omega arith
+crow-most dx dy x y = crow-mono dx dy (gridSide - 1) (gridSide - 1) x y
+
+pub crow-longest : crowMost ≡ 23147
+unfolding crowAcross
+crow-longest = refl
 
 module _ {m : Map} (G : Grounded m) (u v : ℕ) (hu : u < m .places) (hv : v < m .places) where
   abbrev dx : ℕ

@@ -7,9 +7,9 @@ use mathlib.Core.Path.{_≡_, refl}
 use mathlib.Core.Option.{Option, some, none}
 use lib.Dec.{eqb}
 use borrow.Author.Tests.{eqb-true, eqb-false}
-use Rattle.paper.specs.Sizes.{ratioUnit, ratioMost, crowMost}
+use Rattle.paper.specs.Sizes.{ratioUnit, ratioMost}
 use Rattle.paper.specs.Map.{Map}
-use Rattle.paper.specs.Crow.{crow}
+use Rattle.paper.specs.Crow.{crow, crowMost}
 use Rattle.paper.specs.Block.{blockOf}
 use Rattle.paper.specs.Road.{arrived, IsD}
 use Rattle.paper.specs.Truth.{Truth, Told}
@@ -18,12 +18,18 @@ use Rattle.paper.specs.Trail.{Ends, between, endsBy}
 use Rattle.paper.specs.Bounds.{Bounded}
 use Rattle.paper.proofs.Holds.{On, Any, Holds, on-if, on-map}
 use Rattle.paper.proofs.Block.{BlockOf, block-of}
-use Rattle.paper.proofs.Crow.{crow-le}
+use Rattle.paper.proofs.Crow.{crow-le, crow-longest}
 
--- both ends are at most those of the largest ratio over the longest crow distance
+-- the ends of the largest ratio over the longest crow distance
+abbrev pub lowMost : ℕ
+lowMost = (ratioMost * crowMost + (ratioUnit - 1)) / ratioUnit
+
+abbrev pub highMost : ℕ
+highMost = ratioMost * crowMost / ratioUnit
+
 pub record Most (e : Ends) : Type 0 where
-  pub low : e .low ≤ (ratioMost * crowMost + (ratioUnit - 1)) / ratioUnit
-  pub high : e .high ≤ ratioMost * crowMost / ratioUnit
+  pub low : e .low ≤ lowMost
+  pub high : e .high ≤ highMost
 
 module _ {m : Map} (G : Grounded m) (u v : ℕ) (hu : u < m .places) (hv : v < m .places) where
   ends-most : (r : Option ℕ) → blockOf m u v ≡ r → On Any Most (endsBy m u v r)
@@ -40,7 +46,7 @@ module _ {m : Map} (G : Grounded m) (u v : ℕ) (hu : u < m .places) (hv : v < m
   between-most = on-if Any Most (eqb u v) _ _ (λ e. omega arith) (λ e. ends-most (blockOf m u v) refl)
 
   pub between-bounded : On Any Bounded (between m u v)
-  between-bounded = on-map Any Most Bounded (between m u v) between-most (λ e M. omega (arith, M .low, M .high))
+  between-bounded = on-map Any Most Bounded (between m u v) between-most (λ e M. omega (arith, M .low, M .high, crow-longest))
 
 pub at-home : {m : Map} {v d : ℕ} → IsD m v v d → d ≡ 0
 at-home D = omega (arith, D .least 0 arrived)

@@ -1,7 +1,7 @@
 //! Random nets of one-way stages in which every place can be reached from every other.
 
 use crate::inputs::rng::Rng;
-use crate::rules::limits::{LEAVING_MOST, LENGTHS};
+use crate::rules::limits::{CROW_UNIT, LEAVING_MOST, LENGTHS};
 use crate::rules::measure::crow;
 use crate::rules::sheet::{Place, Stage};
 use std::collections::BTreeMap;
@@ -24,8 +24,9 @@ pub const NETS: [Net; 4] = [Net::Loop, Net::Loops, Net::TwoWayTree, Net::Chain];
 pub enum Lengths {
     All(u32),
     UpTo(u32),
+    /// One furlong to a cell's side of the crow distance, and up to half of it more.
     ByCrow,
-    /// The crow distance in sixteenths, and up to so many tenths of it more.
+    /// Sixteen furlongs to a cell's side of the crow distance, and up to so many tenths of it more.
     OverCrow(u32),
 }
 
@@ -92,14 +93,19 @@ impl<'a> Drawing<'a> {
             Lengths::All(length) => length,
             Lengths::UpTo(most) => rng.between(*LENGTHS.start(), most),
             Lengths::ByCrow => {
-                let crow = crow(self.places[tail], self.places[head]).0 as u32;
-                (crow / 16 + rng.between(0, crow / 32)).clamp(*LENGTHS.start(), *LENGTHS.end())
+                let least = self.along_crow(tail, head, 1);
+                (least + rng.between(0, least / 2)).clamp(*LENGTHS.start(), *LENGTHS.end())
             }
             Lengths::OverCrow(tenths) => {
-                let crow = crow(self.places[tail], self.places[head]).0 as u32;
-                (crow + rng.between(0, crow * tenths / 10)).min(*LENGTHS.end())
+                let least = self.along_crow(tail, head, 16);
+                (least + rng.between(0, least * tenths / 10)).min(*LENGTHS.end())
             }
         }
+    }
+
+    /// The crow distance at so many furlongs to a cell's side.
+    fn along_crow(&self, tail: usize, head: usize, furlongs: u64) -> u32 {
+        (crow(self.places[tail], self.places[head]).0 * furlongs / CROW_UNIT) as u32
     }
 
     pub fn one_loop(&mut self, rng: &mut Rng) {

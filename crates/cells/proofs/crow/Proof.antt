@@ -3,7 +3,7 @@ use Prim.Native.Nat.{_-_, _*_, _≤_}
 use native.Mathlib.Omega.{arith}
 use borrow.Author.Needs.{needs}
 use Rattle.paper.specs.Sizes.{gridSide}
-use Rattle.cells.proofs.Codes.{gap-square, crow-is, crow-le}
+use Rattle.cells.proofs.Codes.{gap-square, crow-is, crow-fits}
 use Rattle.cells.proofs.crow.Statement.{statement}
 use Rattle.cells.proofs.crow.Tie as tie
 
@@ -40,7 +40,7 @@ root-requires : tie.Need-root-requires
 root-requires c κs = omega (arith, squares c)
 
 cast-t10 : tie.Need-cast-t10
-cast-t10 c = let s = c .before .before .before in omega (arith, is c, crow-le (s .args .a) (s .args .b) (s .pre .0) (s .pre .1))
+cast-t10 c = let s = c .before .before .before in omega (arith, is c, crow-fits (s .args .a) (s .args .b) (s .pre .0) (s .pre .1))
 
 returns : tie.Need-returns
 returns c = is c
