@@ -48,10 +48,10 @@ const LONGEST_NAMES: [&str; LONGEST] = [
     "check: accepted",
     "question: refused 16",
     "question: refused 18",
-    "0 to 97085554665 after 0 stages",
-    "97085554643 to 97085554665 after 0 stages",
-    "131070 to 96896942055 after 2 stages",
-    "94256364555 to 94256364556 after 1022 stages",
+    "0 to 97088700393 after 0 stages",
+    "97088700371 to 97088700393 after 0 stages",
+    "131070 to 96899039207 after 2 stages",
+    "94258461688 to 94258461708 after 1022 stages",
     "67042305 to 67042305 after 1023 stages",
 ];
 

@@ -24,8 +24,8 @@ pub const LENGTHS: RangeInclusive<u32> = 1..=65_535;
 pub const LEAVING_MOST: usize = 8;
 
 // Lengths and ratios.
-pub const RATIO_UNIT: u64 = 1_024;
-pub const CROW_UNIT: u64 = 16;
+pub const RATIO_UNIT: u64 = 4_096;
+pub const CROW_UNIT: u64 = 64;
 pub const CROW_SCALE: u64 = CROW_UNIT * CROW_UNIT;
 
 // Slices lent to a question, in long words; a C host lends the counts too.

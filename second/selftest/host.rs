@@ -195,7 +195,7 @@ fn walks_refused(tally: &mut Tally) {
     }
 }
 
-/// Two places whose road is 258 furlongs, 2 and 1 × 256; 16,512 × 16 / 1,024 is 258.
+/// Two places whose road is 258 furlongs, 2 and 1 × 256; 16,512 × 64 / 4,096 is 258.
 fn low_bytes_first(tally: &mut Tally) {
     let sheet = Sheet {
         places: vec![Place::at(0, 0), Place::at(1, 0)],

@@ -19,8 +19,8 @@ pub fn run(tally: &mut Tally, seed: u64) {
             largest = largest.or(asked(tally, &case, question));
         }
     }
-    // 1,023 × 65,535; (2^32-1) × 23,147 / 1,024 rounded up; and rounded down, with the walked length.
-    let due = Largest { walked: 67_042_305, end: 97_085_554_666, sum: 97_152_596_970 };
+    // 1,023 × 65,535; (2^32-1) × 92,591 / 4,096 rounded up; and rounded down, with the walked length.
+    let due = Largest { walked: 67_042_305, end: 97_088_700_394, sum: 97_155_742_698 };
     tally.same("the largest numbers of all walks", largest, due);
 }
 

@@ -42,9 +42,9 @@ fn marked_measures(tally: &mut Tally) {
     let sheet = marked::sheet();
     let place = |u: usize| sheet.places[u];
     tally.same("P1", [1, 2, 3].map(|u| code_of(place(u))), [37, 148, 34]);
-    tally.same("P2", crow(place(0), place(1)).0, 80);
-    tally.same("P3", crow(place(1), place(3)).0, 50);
-    tally.same("P4", crow(place(2), place(3)).0, 107);
+    tally.same("P2", crow(place(0), place(1)).0, 320);
+    tally.same("P3", crow(place(1), place(3)).0, 202);
+    tally.same("P4", crow(place(2), place(3)).0, 429);
     let roads = Roads::of(&sheet);
     tally.same("P5", roads.between(2, 3), 20);
     tally.same("P6", roads.between(0, 2), 11);

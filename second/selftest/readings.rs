@@ -142,7 +142,7 @@ fn old_via_is_never_first(tally: &mut Tally) {
     sheet.blocks = vec![block([0, 0, 10, 0, 0, 5_000])];
     question_gives(tally, "reading 13", &sheet, (0, 1), 17);
     tally.same("reading 13, the oracle", oracle::listing(&sheet, 0, 1).err(), Some(17));
-    // From (1,0) to (9,9) the crow distance is 192: 1 x 192 / 1,024 is 1 to 0.
+    // From (1,0) to (9,9) the crow distance is 770: 1 x 770 / 4,096 is 1 to 0.
     sheet.blocks.push(block([1, 0, 10, 0, 1, 1]));
     question_gives(tally, "reading 14", &sheet, (0, 1), 18);
     tally.same("reading 14, the oracle", oracle::listing(&sheet, 0, 1).err(), Some(18));
@@ -150,8 +150,8 @@ fn old_via_is_never_first(tally: &mut Tally) {
 
 fn largest_numbers(tally: &mut Tally) {
     let (near, far) = (Place::at(0, 0), Place::at(1_023, 1_023));
-    tally.same("the longest crow distance", crow(near, far).0, 23_147);
-    tally.same("the shortest crow distance", crow(near, Place::at(1, 0)).0, 16);
+    tally.same("the longest crow distance", crow(near, far).0, 92_591);
+    tally.same("the shortest crow distance", crow(near, Place::at(1, 0)).0, 64);
     ring_of_long_stages(tally);
 }
 

@@ -66,7 +66,7 @@ crow-mono a b dx dy x y = root-le (omega (arith, mul-le-mul x x, mul-le-mul y y)
 pub crow-most : (dx dy : ℕ) → dx ≤ gridSide - 1 → dy ≤ gridSide - 1 → crowAcross dx dy ≤ crowMost
 crow-most dx dy x y = crow-mono dx dy (gridSide - 1) (gridSide - 1) x y
 
-pub crow-longest : crowMost ≡ 23147
+pub crow-longest : crowMost ≡ 92591
 unfolding crowAcross
 crow-longest = refl
 

@@ -35,8 +35,8 @@ ratioEnough = ratioUnit * roadMost / crowUnit
 
 -- what the bounds come to: the ends of the largest ratio over the longest crow distance, the longest road, and that ratio
 record Figures : Type 0 where
-  low : lowMost ≡ 97085554666
-  high : highMost ≡ 97085554665
+  low : lowMost ≡ 97088700394
+  high : highMost ≡ 97088700393
   road : roadMost ≡ 67042305
   ratio : ratioEnough ≡ 4290707520
 

@@ -64,9 +64,9 @@ outcome r = andThen r (λ st. served (record { total = st .total; lines = st .li
 -- P1 to P10
 pub record MarkedTable : Type 0 where
   pub p1 : (cell map 1 ≡ 37) × (cell map 2 ≡ 148) × (cell map 3 ≡ 34)
-  pub p2 : crow map 0 1 ≡ 80
-  pub p3 : crow map 1 3 ≡ 50
-  pub p4 : crow map 2 3 ≡ 107
+  pub p2 : crow map 0 1 ≡ 320
+  pub p3 : crow map 1 3 ≡ 202
+  pub p4 : crow map 2 3 ≡ 429
   pub p5 : IsD map 2 3 20
   pub p6 : IsD map 0 2 11
   pub p7 : (start map 2 (offices .stand 0) ≡ interval 2 10 30) × (start map 2 (offices .stand 1) ≡ interval 2 7 20) × (start map 2 (offices .stand 2) ≡ interval 2 5 15)

@@ -43,11 +43,11 @@ pub const MOST_FURLONGS: u32 = 65_535;
 
 pub const MOST_LEAVING: u32 = 8;
 
-// Ratios are in 1,024ths.
-pub const RATIO_UNIT: u64 = 1024;
+// Ratios are in 4,096ths.
+pub const RATIO_UNIT: u64 = 4096;
 
-// Crow distances are in sixteenths of a cell.
-pub const CROW_UNIT: u64 = 16;
+// Crow distances are in 64ths of a cell.
+pub const CROW_UNIT: u64 = 64;
 
 // The program's input: q and k before the sheet, in bytes; and its limits, bytes of the sheet, places, offices.
 pub const ASKED_BYTES: usize = 2 * WORD_BYTES;

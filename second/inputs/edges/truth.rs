@@ -6,6 +6,7 @@ use crate::rules::sheet::Sheet;
 
 pub fn all() -> Vec<Edge> {
     let mut edges = ratio_edges();
+    edges.extend(scale_edges());
     edges.extend(cover_edges());
     edges.extend(colour_and_road_edges());
     edges.extend(pair_orders());
@@ -18,8 +19,8 @@ fn ratio_edges() -> Vec<Edge> {
         check(0, "the marked sheet", |_| {}),
         check(0, "low 63 of place 2", |s| s.blocks[5].low = 63),
         check(14, "low 65 of place 2", |s| s.blocks[5].low = 65),
-        check(14, "high 191 of place 2", |s| s.blocks[5].high = 191),
-        check(0, "high 193 of place 2", |s| s.blocks[5].high = 193),
+        check(14, "high 190 of place 2", |s| s.blocks[5].high = 190),
+        check(0, "high 191 of place 2", |s| s.blocks[5].high = 191),
         check(0, "low 0", |s| s.blocks[5].low = 0),
         check(0, "high 2^32-1", |s| s.blocks[5].high = u32::MAX),
         check(14, "low 116 of place 0", |s| s.blocks[0].low = 116),
@@ -54,8 +55,26 @@ fn cover_edges() -> Vec<Edge> {
             s.blocks[6] = block([3, 0, 2, 0, 115, 116]);
             s.blocks.push(block([3, 34, 0, 0, 0, 0]));
             s.blocks.push(block([3, 36, 1, 0, 300, 308]));
-            s.blocks.push(block([3, 128, 3, 0, 191, 192]));
+            s.blocks.push(block([3, 128, 3, 0, 190, 191]));
         }),
+    ]
+}
+
+/// In sixteenths and 1,024ths, the scale before item 11, the tightest ratios were 191 to 192 from place 3 to place 2 (107
+/// by crow), and the least high one 308 from place 1 to place 3 (50). They are 190 to 191 (429) and 305 (202).
+fn scale_edges() -> Vec<Edge> {
+    let of_place_3 = |low: u32, high: u32| {
+        move |s: &mut Sheet| {
+            s.blocks[6] = block([3, 0, 3, 0, 115, 308]);
+            s.blocks.push(block([3, 128, 3, 0, low, high]));
+        }
+    };
+    vec![
+        check(0, "the tightest ratios", of_place_3(190, 191)),
+        check(14, "the tightest ratios of the old scale", of_place_3(191, 192)),
+        check(0, "ratios that are true at both scales", of_place_3(190, 192)),
+        check(0, "true at the new scale alone", |s| s.blocks[3].high = 305),
+        check(14, "true at neither scale", |s| s.blocks[3].high = 304),
     ]
 }
 

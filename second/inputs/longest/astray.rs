@@ -23,7 +23,7 @@ fn astray(name: &'static str, map: Sheet, questions: Vec<Question>) -> Case {
 /// The last refinement from place 0 is there again, with the longest road behind it and the longest diagonal ahead.
 fn round_and_round(last: u32) -> Vec<Question> {
     vec![
-        listed(&[last], 0, &[[0, 0, 97_085_554_665, 0]], 0),
+        listed(&[last], 0, &[[0, 0, 97_088_700_393, 0]], 0),
         refused(&[last, last], (0, 1), WALK_TOO_LONG),
         refused(&[last, last], (5, 2), WALK_TOO_LONG),
         listed(&[last, last, 5], 0, &[[2, 327_675, 327_675, 5]], 6 + 6 + 5),
@@ -41,20 +41,20 @@ fn too_long_before_empty() -> Case {
 }
 
 /// Low ratios of place 0, where the walk from place 1 comes after 1,022 stages with 66,976,770 behind it. Its high end
-/// is then that of place 991 in cell (31,30): 64,879,650 walked, and 94,191,484,906 by the crow distance 22,457.
+/// is then that of place 991 in cell (31,30): 64,879,650 walked, and 94,193,582,058 by the crow distance 89,830.
 fn raised_lows() -> Vec<Case> {
     let offices = [1_023, 1_022];
-    let list = [[1, 66_911_235, 66_911_235, 1_021], [0, 94_256_364_555, 94_256_364_556, 1_022]];
+    let list = [[1, 66_911_235, 66_911_235, 1_021], [0, 94_258_461_688, 94_258_461_708, 1_022]];
     let empty = || refused(&offices, (1, 2), WALK_EMPTY);
     let empty_at_once = refused(&[1_023], (0, 1), WALK_EMPTY);
     // No answer has a larger low end: from no other cell are the ends so far, not even with a stage walked.
-    let largest_low = listed(&[1_023], 0, &[[0, 97_085_554_643, 97_085_554_665, 0]], 0);
+    let largest_low = listed(&[1_023], 0, &[[0, 97_088_700_371, 97_088_700_393, 0]], 0);
     let empty_next = refused(&[1_023, 1_023], (0, 1), WALK_EMPTY);
     vec![
         raised_low("the largest low ratio", u32::MAX, vec![empty(), empty_at_once]),
         raised_low("the largest low ratio but one", u32::MAX - 1, vec![empty(), largest_low, empty_next]),
-        raised_low("a low ratio that just leaves a length", 4_166_843_785, vec![listed(&offices, 1, &list, 2_043)]),
-        raised_low("a low ratio that just leaves none", 4_166_843_786, vec![empty()]),
+        raised_low("a low ratio that just leaves a length", 4_166_801_549, vec![listed(&offices, 1, &list, 2_043)]),
+        raised_low("a low ratio that just leaves none", 4_166_801_550, vec![empty()]),
     ]
 }
 

@@ -1,5 +1,5 @@
 //! Rings through all places. They tell the truth: no road is longer than 67,042,305, and 2^32-1 times the shortest crow
-//! distance, over 1,024, is 67,108,863. So no office is listed before it arrives while another waits.
+//! distance, over 4,096, is 67,108,863. So no office is listed before it arrives while another waits.
 
 use crate::inputs::longest::case::{listed, Case, Question};
 use crate::inputs::longest::maps::*;
@@ -25,8 +25,8 @@ fn truth(name: &'static str, map: Sheet, questions: Vec<Question>) -> Case {
 /// The longest diagonal at once; and with a second office, the longest road.
 fn corner_questions() -> Vec<Question> {
     vec![
-        listed(&[1_023], 0, &[[0, 0, 97_085_554_665, 0]], 0),
-        listed(&[0], 1_023, &[[0, 0, 97_085_554_665, 0]], 0),
+        listed(&[1_023], 0, &[[0, 0, 97_088_700_393, 0]], 0),
+        listed(&[0], 1_023, &[[0, 0, 97_088_700_393, 0]], 0),
         listed(&[1_023, 1_023], 0, &[[0, 67_042_305, 67_042_305, 1_023]], 2_046),
     ]
 }
@@ -51,12 +51,12 @@ fn ring_questions() -> Vec<Question> {
 }
 
 /// The office that is left alone is listed under way, its high end the last one worked out: from (2,2), (512,512) and
-/// (1022,1022) the crow distances are 23,102, 11,562 and 22.
+/// (1022,1022) the crow distances are 92,410, 46,250 and 90.
 fn diagonal_questions() -> Vec<Question> {
     vec![
-        listed(&[1_023, 1], 0, &[[1, 65_535, 65_535, 1], [0, 131_070, 96_896_942_055, 2]], 3),
-        listed(&[512, 1_023], 0, &[[0, 33_553_920, 33_553_920, 512], [1, 33_553_920, 48_528_096_756, 512]], 1_024),
-        listed(&[1_022, 1_023], 0, &[[0, 66_976_770, 66_976_770, 1_022], [1, 66_976_770, 159_251_457, 1_022]], 2_044),
+        listed(&[1_023, 1], 0, &[[1, 65_535, 65_535, 1], [0, 131_070, 96_899_039_207, 2]], 3),
+        listed(&[512, 1_023], 0, &[[0, 33_553_920, 33_553_920, 512], [1, 33_553_920, 48_530_193_908, 512]], 1_024),
+        listed(&[1_022, 1_023], 0, &[[0, 66_976_770, 66_976_770, 1_022], [1, 66_976_770, 161_348_609, 1_022]], 2_044),
     ]
 }
 
@@ -70,12 +70,12 @@ fn one_furlong_fewer(rng: &mut Rng) -> Case {
 fn one_ratio_lower(rng: &mut Rng) -> Case {
     let mut map = ring(drawn(rng, 1_024, CORNERS));
     map.blocks[0].high -= 1;
-    truth("a ring, one ratio lower", map, vec![listed(&[1_023], 0, &[[0, 0, 97_085_554_642, 0]], 0)])
+    truth("a ring, one ratio lower", map, vec![listed(&[1_023], 0, &[[0, 0, 97_088_700_370, 0]], 0)])
 }
 
 fn one_place_fewer(rng: &mut Rng) -> Case {
     let questions = vec![
-        listed(&[1_022], 0, &[[0, 0, 97_085_554_665, 0]], 0),
+        listed(&[1_022], 0, &[[0, 0, 97_088_700_393, 0]], 0),
         listed(&[1_022, 1_022], 0, &[[0, 66_976_770, 66_976_770, 1_022]], 2_044),
     ];
     truth("a ring, one place fewer", ring(drawn(rng, 1_023, CORNERS)), questions)
