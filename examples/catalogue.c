@@ -105,7 +105,7 @@ static const struct refusal refusals[] = {
         {"A block's colour is not the first stage of any shortest road to a place that it covers.", SEND_BACK},
     [ATLAS_UNTRUE_RATIO] =
         {"A block's ratios do not enclose the true road length.",
-         SEND_BACK " If it was made before crow distances counted in 64ths of a cell, ask for the new issue."},
+         SEND_BACK " Sheets from before crow distances counted in 64ths of a cell have all been reissued: ask for the new issue."},
     [ATLAS_IDLE_BLOCK] = {"A block covers no place other than its own.", SEND_BACK},
     [ATLAS_WALK_TOO_LONG] =
         {"The walk towards an office went on for as many stages as there are places, less one, and another was due.", NEVER_HERE},

@@ -16,8 +16,9 @@
        blocks     place, code, level, colour, low ratio, high ratio
        offices    place                                              M of them, numbered from 0
 
-   A ratio is a road length over a crow distance, in 4,096ths; the crow distance of two places is the largest whole number whose square is
-   at most 4,096 * (dx^2 + dy^2), so it counts in 64ths of a cell: 64 to 92,591 between different places.
+   A ratio is a road length in furlongs over a crow distance, in 4,096ths. The crow distance of two places that are dx apart in x and dy
+   in y is the largest whole number whose square is at most 4,096 * (dx^2 + dy^2): it counts in 64ths of a cell, and between different
+   places it is 64 to 92,591.
 
    NO INPUT IS BAD. Any bytes may be a sheet, any numbers a question, and any slice may be too short: each is served or refused by its
    number, and nothing is taken to have been checked before. What is asked of the caller stands under LENDING and ATLAS_STACK_BYTES.

@@ -1,4 +1,5 @@
-//! The independent second program: answers by the plainest means, written from document 01 alone.
+//! The independent second program: answers by the plainest means, written from document 01 and items 1, 8 and 11 of
+//! document 02 alone.
 //! Its commands print what the proved program should print, make inputs, and test themselves.
 
 mod inputs;

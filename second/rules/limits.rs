@@ -25,8 +25,7 @@ pub const LEAVING_MOST: usize = 8;
 
 // Lengths and ratios.
 pub const RATIO_UNIT: u64 = 4_096;
-pub const CROW_UNIT: u64 = 64;
-pub const CROW_SCALE: u64 = CROW_UNIT * CROW_UNIT;
+pub const CROW_SCALE: u64 = 4_096;
 
 // Slices lent to a question, in long words; a C host lends the counts too.
 pub const ANSWER_WORDS: usize = 4;

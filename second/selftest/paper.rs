@@ -1,4 +1,5 @@
-//! Self test, part 1: what the paper prints, P1 to P10 and its list "Run, not proved".
+//! Self test, part 1: what the paper prints, P1 to P10 (P2 to P4 at the scale of item 11 of
+//! document 02) and its list "Run, not proved".
 
 use crate::inputs::marked;
 use crate::rules::map::Map;

@@ -1,6 +1,7 @@
 //! Self test, part 5: a case for each settled point of docs/DECISIONS.md (1 to 19) that can be put as one. 6, 7, 9
 //! and 18 are among the edges; 12 is looked at in every refinement of a true sheet (demands); 15 is put by the longest
-//! walks; 19 is put with 5. 17 is of a test that request 8 took out.
+//! walks; 19 is put with 5. 17 is of a test that request 8 took out. Of the readings of item 11, 27 is among the largest
+//! numbers, 28 with what the paper prints and among the edges, 29 among the edges.
 
 use crate::inputs::longest::maps::ring;
 use crate::inputs::marked::{self, block, stage};

@@ -27,6 +27,7 @@ lowMost = (ratioMost * crowMost + (ratioUnit - 1)) / ratioUnit
 abbrev pub highMost : ℕ
 highMost = ratioMost * crowMost / ratioUnit
 
+-- no end is above them
 pub record Most (e : Ends) : Type 0 where
   pub low : e .low ≤ lowMost
   pub high : e .high ≤ highMost

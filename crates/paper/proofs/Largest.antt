@@ -1,5 +1,5 @@
--- The largest numbers: what the bounds come to, and a sheet on which the crow distances and the largest high end are met and a refinement adds to it, so
--- that what `sheet-within` asks of a sheet and of a walk can be had.
+-- The largest numbers: what the bounds come to, and a sheet on which the least and the most crow distance and the largest high end are met and a refinement
+-- adds to it, so that what `sheet-within` asks of a sheet and of a walk can be had.
 use Prim.Native.Nat.{ℕ, _+_, _*_, _-_, _/_, _≤_, _<_}
 use native.Mathlib.Omega.{arith}
 use mathlib.Core.Path.{_≡_, refl}
@@ -30,29 +30,29 @@ use Rattle.paper.proofs.Ends.{lowMost, highMost, Most, between-most}
 use Rattle.paper.proofs.Bounds.{sheet-within}
 
 -- a high ratio that is true of every pair, since no road is longer and no two places are nearer by crow
-abbrev ratioEnough : ℕ
+abbrev pub ratioEnough : ℕ
 ratioEnough = ratioUnit * roadMost / crowUnit
 
--- what the bounds come to: the ends of the largest ratio over the longest crow distance, the longest road, and that ratio
-record Figures : Type 0 where
-  low : lowMost ≡ 97088700394
-  high : highMost ≡ 97088700393
-  road : roadMost ≡ 67042305
-  ratio : ratioEnough ≡ 4290707520
+-- what the bounds come to: the ends of the largest ratio over the longest crow distance, the longest road, and that ratio, which a word holds
+pub record Figures : Type 0 where
+  pub low : lowMost ≡ 97088700394
+  pub high : highMost ≡ 97088700393
+  pub road : roadMost ≡ 67042305
+  pub ratio : ratioEnough ≡ 4290707520
+  pub fits : ratioEnough ≤ ratioMost
 
-figures : Figures
+pub figures : Figures
 unfolding crowAcross
-figures = record { low = refl; high = refl; road = refl; ratio = refl }
+figures = record { low = refl; high = refl; road = refl; ratio = refl; fits = omega arith }
 
 -- no end is larger, before the walked length is added
 pub ends-largest : (s : List ℕ) → Bytes s → layout s ≡ 0 → (u v : ℕ) → u < mapOf s .places → v < mapOf s .places
     → (e : Ends) → between (mapOf s) u v ≡ served e → Most e
 ends-largest s bytes h u v hu hv e q = given Any Most (between (mapOf s) u v) e q (between-most (laid-out s bytes h .ground) u v hu hv)
 
--- a word holds a true high ratio for any two places
-pub ratio-enough : {m : Map} → LaidOut m → (u v d : ℕ) → u < m .places → v < m .places → (u ≡ v → ⊥) → IsD m u v d
-    → (ratioEnough ≤ ratioMost) × (ratioUnit * d ≤ ratioEnough * crow m u v)
-ratio-enough L u v d hu hv ne D = (omega arith, omega (arith, distance-far L v hu D, crow-ge (L .ground) u v hu hv ne))
+-- so a word holds a true high ratio for any two places
+pub ratio-enough : {m : Map} → LaidOut m → (u v d : ℕ) → u < m .places → v < m .places → (u ≡ v → ⊥) → IsD m u v d → ratioUnit * d ≤ ratioEnough * crow m u v
+ratio-enough L u v d hu hv ne D = omega (arith, distance-far L v hu D, crow-ge (L .ground) u v hu hv ne)
 
 -- three places, two of them at opposite corners, a stage from each, and a block for each with the ratios 0 and 2^32 - 1
 corners : List ℕ

@@ -61,7 +61,7 @@ pub record Outcome : Type 0 where
 abbrev pub outcome : Served State → Served Outcome
 outcome r = andThen r (λ st. served (record { total = st .total; lines = st .lines }))
 
--- P1 to P10
+-- P1 to P10; P2 to P4 at the scale of document 02, item 11
 pub record MarkedTable : Type 0 where
   pub p1 : (cell map 1 ≡ 37) × (cell map 2 ≡ 148) × (cell map 3 ≡ 34)
   pub p2 : crow map 0 1 ≡ 320

@@ -1,7 +1,7 @@
 //! Random nets of one-way stages in which every place can be reached from every other.
 
 use crate::inputs::rng::Rng;
-use crate::rules::limits::{CROW_UNIT, LEAVING_MOST, LENGTHS};
+use crate::rules::limits::{LEAVING_MOST, LENGTHS};
 use crate::rules::measure::crow;
 use crate::rules::sheet::{Place, Stage};
 use std::collections::BTreeMap;
@@ -24,9 +24,9 @@ pub const NETS: [Net; 4] = [Net::Loop, Net::Loops, Net::TwoWayTree, Net::Chain];
 pub enum Lengths {
     All(u32),
     UpTo(u32),
-    /// One furlong to a cell's side of the crow distance, and up to half of it more.
+    /// The crow distance at one furlong to a cell, and up to half of it more.
     ByCrow,
-    /// Sixteen furlongs to a cell's side of the crow distance, and up to so many tenths of it more.
+    /// The crow distance at sixteen furlongs to a cell, and up to so many tenths of it more.
     OverCrow(u32),
 }
 
@@ -103,9 +103,10 @@ impl<'a> Drawing<'a> {
         }
     }
 
-    /// The crow distance at so many furlongs to a cell's side.
+    /// The crow distance at so many furlongs to a cell.
     fn along_crow(&self, tail: usize, head: usize, furlongs: u64) -> u32 {
-        (crow(self.places[tail], self.places[head]).0 * furlongs / CROW_UNIT) as u32
+        let cell = crow(Place::at(0, 0), Place::at(1, 0));
+        (crow(self.places[tail], self.places[head]).0 * furlongs / cell.0) as u32
     }
 
     pub fn one_loop(&mut self, rng: &mut Rng) {

@@ -21,6 +21,8 @@ fn ratio_edges() -> Vec<Edge> {
         check(14, "low 65 of place 2", |s| s.blocks[5].low = 65),
         check(14, "high 190 of place 2", |s| s.blocks[5].high = 190),
         check(0, "high 191 of place 2", |s| s.blocks[5].high = 191),
+        check(14, "high 304 of place 3", |s| s.blocks[6].high = 304),
+        check(0, "high 305 of place 3", |s| s.blocks[6].high = 305),
         check(0, "low 0", |s| s.blocks[5].low = 0),
         check(0, "high 2^32-1", |s| s.blocks[5].high = u32::MAX),
         check(14, "low 116 of place 0", |s| s.blocks[0].low = 116),

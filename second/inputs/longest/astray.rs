@@ -53,8 +53,8 @@ fn raised_lows() -> Vec<Case> {
     vec![
         raised_low("the largest low ratio", u32::MAX, vec![empty(), empty_at_once]),
         raised_low("the largest low ratio but one", u32::MAX - 1, vec![empty(), largest_low, empty_next]),
-        raised_low("a low ratio that just leaves a length", 4_166_801_549, vec![listed(&offices, 1, &list, 2_043)]),
-        raised_low("a low ratio that just leaves none", 4_166_801_550, vec![empty()]),
+        raised_low("the last low ratio that leaves a length", 4_166_801_549, vec![listed(&offices, 1, &list, 2_043)]),
+        raised_low("the first low ratio that leaves none", 4_166_801_550, vec![empty()]),
     ]
 }
 
