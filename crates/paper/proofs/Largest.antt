@@ -24,7 +24,7 @@ use Rattle.paper.proofs.Test.{every-true}
 use Rattle.paper.proofs.Holds.{Any, given}
 use Rattle.paper.proofs.Laid.{laid-out}
 use Rattle.paper.proofs.LaidOut.{LaidOut}
-use Rattle.paper.proofs.Crow.{crow-ge}
+use Rattle.paper.proofs.Crow.{crow-ge, crow-longest}
 use Rattle.paper.proofs.Far.{distance-far}
 use Rattle.paper.proofs.Ends.{lowMost, highMost, Most, between-most}
 use Rattle.paper.proofs.Bounds.{sheet-within}
@@ -42,8 +42,7 @@ pub record Figures : Type 0 where
   pub fits : ratioEnough ≤ ratioMost
 
 pub figures : Figures
-unfolding crowAcross
-figures = record { low = refl; high = refl; road = refl; ratio = refl; fits = omega arith }
+figures = record { low = omega (arith, crow-longest); high = omega (arith, crow-longest); road = refl; ratio = refl; fits = omega arith }
 
 -- no end is larger, before the walked length is added
 pub ends-largest : (s : List ℕ) → Bytes s → layout s ≡ 0 → (u v : ℕ) → u < mapOf s .places → v < mapOf s .places
