@@ -12,7 +12,7 @@ use sheet::word;
 use text::put_reply;
 use truth::check;
 ghost use mathlib.Core.Path.{_≡_};
-ghost use Prim.Native.Nat.{_+_, _≤_};
+ghost use Prim.Native.Nat.{_≤_};
 ghost use lib.ListN.{length};
 ghost use Rattle.paper.specs.Sizes.{programOffices};
 ghost use Rattle.paper.specs.Printed.{unfit as unfitOf, refusalText, replyText, programReply};

@@ -7,12 +7,12 @@ use paper::sizes::MOST_OFFICES;
 use paper::sizes::SLOT_WORDS;
 ghost use mathlib.Core.Path.{_≡_};
 ghost use Prim.Native.Nat.{_+_, _*_, _^_, _≤_, _<_};
-ghost use lib.ListN.{length, getD};
+ghost use lib.ListN.{length};
 ghost use Rattle.paper.specs.Sizes.{lineWords, mostOffices};
 ghost use Rattle.paper.specs.Slice.{cleared as clearedOf};
 ghost use Rattle.paper.specs.Quest.{Quest};
 ghost use Rattle.paper.specs.Listing.{lineOf};
-ghost use Rattle.nearest.specs.Working.{sideWords, treeAt, key as keyOf, Side, Stored};
+ghost use Rattle.nearest.specs.Working.{sideWords, key as keyOf, Side, Stored};
 ghost use Rattle.quadtree.specs.Walks.{trailOf};
 ghost use Rattle.nearest.specs.Going.{Wrote};
 

@@ -4,7 +4,7 @@ pub mod sizes;
 ghost use mathlib.Core.Path.{_≡_};
 ghost use Prim.Native.Nat.{_^_, _<_};
 
-// Spatial distance, as the crow flies, in 64ths of a cell.
+// Spatial distance, as the crow flies: sizes::CROW_UNIT to a cell.
 pub struct Spatial(pub u32);
 
 // Network distance, along roads, in furlongs.

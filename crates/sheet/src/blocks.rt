@@ -7,7 +7,7 @@ use paper::sizes::ALL_CELLS;
 use paper::sizes::BLOCK_WORDS;
 use paper::sizes::TOP_LEVEL;
 ghost use mathlib.Core.Path.{_≡_};
-ghost use Prim.Native.Nat.{ℕ, _+_, _*_, _%_, _^_, _≤_, _<_};
+ghost use Prim.Native.Nat.{ℕ, _+_, _*_, _%_, _^_, _≤_};
 ghost use lib.Dec.{eqb};
 ghost use lib.ListN.{length};
 ghost use Rattle.paper.specs.Sizes.{blockWords, topLevel};

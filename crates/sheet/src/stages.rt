@@ -8,7 +8,7 @@ use paper::sizes::MOST_PLACES;
 use paper::sizes::STAGE_WORDS;
 ghost use mathlib.Core.Path.{_≡_};
 ghost use mathlib.Core.Bool.{true};
-ghost use Prim.Native.Nat.{ℕ, _+_, _*_, _≤_, _<_};
+ghost use Prim.Native.Nat.{ℕ, _+_, _*_, _≤_};
 ghost use lib.ListN.{length};
 ghost use Rattle.paper.specs.Sizes.{stageWords};
 ghost use Rattle.paper.specs.Map.{Map};
