@@ -74,7 +74,7 @@ pub fn place_and_number(rng: &mut Rng, sheet: Option<&Sheet>, sizes: &Sizes) -> 
     }
     let (places, offices) = (sizes.places as u32, sizes.offices as u32);
     let q = rng.pick(&[0, 0, places / 2, places - 1, places - 1, places, places + 1, 1 << 31, u32::MAX]);
-    // 32 × 2^27 is no 32-bit number any more.
+    // 40 × 2^27 is no 32-bit number any more, and the low 32 bits of 40 × 2^29 are 0.
     let k = rng.pick(&[0, 1, 1, offices, offices, offices, offices + 1, 1 << 27, 1 << 29, u32::MAX]);
     (q, k)
 }
@@ -88,14 +88,16 @@ fn enough(rng: &mut Rng, exact: usize) -> usize {
     }
 }
 
-/// Under the limit where that is not 0: by one byte, by a word, by most or by all.
+/// Under the limit where that is not 0: by one byte, by a word, by a fifth, by most or by all. Less a fifth, an answer has
+/// four words for each office.
 fn short(rng: &mut Rng, exact: usize) -> usize {
-    match rng.below(8) {
+    match rng.below(9) {
         0..=2 => exact.saturating_sub(1),
         3 => exact.saturating_sub(WORD_BYTES),
         4 => exact.saturating_sub(LONG_WORD_BYTES),
-        5 => rng.below(exact),
-        6 => rng.below(exact.min(LONG_WORD_BYTES)),
+        5 => exact / ANSWER_WORDS * (ANSWER_WORDS - 1),
+        6 => rng.below(exact),
+        7 => rng.below(exact.min(LONG_WORD_BYTES)),
         _ => 0,
     }
 }

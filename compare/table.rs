@@ -42,8 +42,17 @@ const INPUT_NAMES: [&str; INPUTS] = [
     "counts of 17 bytes",
 ];
 
-/// On the longest walks: what the functions give, and the ends and stages of an office in a list.
-const LONGEST: usize = 8;
+/// Lengths of an answer: so many words for each of k offices, less so many bytes; and what is due to such a question.
+const ANSWERS: usize = 4;
+const ANSWER_LENGTHS: [(&str, usize, usize, Number); ANSWERS] = [
+    ("an answer of 40k bytes, listed", ANSWER_WORDS, 0, ACCEPTED),
+    ("an answer of 40k - 1 bytes, refused by 9", ANSWER_WORDS, 1, SHORT_SLICES),
+    ("an answer of 40k - 8 bytes, refused by 9", ANSWER_WORDS, LONG_WORD_BYTES, SHORT_SLICES),
+    ("an answer of 32k bytes, refused by 9", ANSWER_WORDS - 1, 0, SHORT_SLICES),
+];
+
+/// On the longest walks: what the functions give, and the ends, stages and gazetteer number of an office in a list.
+const LONGEST: usize = 9;
 const LONGEST_NAMES: [&str; LONGEST] = [
     "check: accepted",
     "question: refused 16",
@@ -53,6 +62,7 @@ const LONGEST_NAMES: [&str; LONGEST] = [
     "131070 to 96899039207 after 2 stages",
     "94258461688 to 94258461708 after 1022 stages",
     "67042305 to 67042305 after 1023 stages",
+    "gazetteer number 4294967295",
 ];
 
 /// Whether everything has to be met, or a part is compared again.
@@ -71,6 +81,7 @@ pub struct Table {
     checks: [u64; LAST as usize + 1],
     questions: [u64; LAST as usize + 1],
     inputs: [u64; INPUTS],
+    answers: [u64; ANSWERS],
     walks: [u64; LONGEST],
     differences: Vec<String>,
 }
@@ -93,6 +104,16 @@ fn inputs(call: &Call, sheet: &Guarded, due: Number) -> [bool; INPUTS] {
     [empty, largest, odd, no_sheet, distances, answer, working, no_counts, broken, none, short, exact, more]
 }
 
+/// Which of these lengths the answer of a call has.
+fn answers(call: &Call, due: Number) -> [bool; ANSWERS] {
+    let Ask::Question(_, k, [bytes, ..]) = call.ask else {
+        return [false; ANSWERS];
+    };
+    ANSWER_LENGTHS.map(|(_, words, fewer, number)| {
+        due == number && bytes + fewer == LONG_WORD_BYTES * words * k as usize
+    })
+}
+
 fn given([function, good]: [&str; 2], number: Number) -> String {
     if number == ACCEPTED { format!("{function}: {good}") } else { format!("{function}: refused {number}") }
 }
@@ -101,8 +122,9 @@ fn given([function, good]: [&str; 2], number: Number) -> String {
 fn walks(call: &Call, due: &Outcome) -> Vec<String> {
     let function = if matches!(call.ask, Ask::Check(_)) { CHECK } else { QUESTION };
     let mut names = vec![given(function, due.number)];
-    for [_, low, high, stages] in call.list(due) {
+    for [_, low, high, stages, gazetteer] in call.list(due) {
         names.push(format!("{low} to {high} after {stages} stages"));
+        names.push(format!("gazetteer number {gazetteer}"));
     }
     names
 }
@@ -112,6 +134,9 @@ impl Table {
         let numbers = if matches!(call.ask, Ask::Check(_)) { &mut self.checks } else { &mut self.questions };
         numbers[due.number as usize] += 1;
         for (count, is) in self.inputs.iter_mut().zip(inputs(call, sheet, due.number)) {
+            *count += u64::from(is);
+        }
+        for (count, is) in self.answers.iter_mut().zip(answers(call, due.number)) {
             *count += u64::from(is);
         }
         let met = if part == Part::Longest { walks(call, due) } else { Vec::new() };
@@ -133,6 +158,7 @@ impl Table {
         add(&mut self.checks, &other.checks);
         add(&mut self.questions, &other.questions);
         add(&mut self.inputs, &other.inputs);
+        add(&mut self.answers, &other.answers);
         add(&mut self.walks, &other.walks);
         self.differences.extend(other.differences);
     }
@@ -144,6 +170,8 @@ impl Table {
             lines.extend(numbers.map(|number| (given(function, number), met[number as usize])));
         }
         lines.extend(INPUT_NAMES.iter().zip(self.inputs).map(|(name, met)| (format!("calls with {name}"), met)));
+        let answers = ANSWER_LENGTHS.iter().zip(self.answers);
+        lines.extend(answers.map(|((name, ..), met)| (format!("calls with {name}"), met)));
         lines.extend(LONGEST_NAMES.iter().zip(self.walks).map(|(name, met)| (format!("longest walks: {name}"), met)));
         lines.push((String::from("calls by threads at once"), self.at_once));
         lines

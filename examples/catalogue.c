@@ -19,16 +19,19 @@
 
 static const char usage[] =
     "usage: catalogue [-c] SHEET [Q K]...\n"
-    "Lists the K offices nearest by road from place Q of a sheet, for each question Q K. SHEET is a file of bytes.\n"
-    "With no question there, they are read from standard input, one to a line: two numbers, with spaces or tabs between. Blank lines\n"
+    "Lists the K offices nearest by road from place Q of a sheet, for each question Q K. SHEET is a file of bytes. Q is the place's\n"
+    "number on the sheet, or # and its gazetteer number: as an argument in quotes, '#103', since the shell takes a bare # and all that\n"
+    "follows it for a comment.\n"
+    "With no question there, they are read from standard input, one to a line, with spaces or tabs between Q and K. Blank lines\n"
     "are skipped. What is no question is told on standard error, and the rest is still answered. Where the questions are arguments,\n"
     "the sheet may come on standard input, as /dev/stdin.\n"
     "With -c the answers are columns, with tabs between:\n"
-    "    listed   Q K OFFICES REFINEMENTS                  and then a line for each of the OFFICES listed:\n"
-    "    office   Q K RANK OFFICE PLACE LOW HIGH STAGES    the road is LOW to HIGH furlongs long; STAGES were walked\n"
+    "    listed   Q K OFFICES REFINEMENTS GAZETTEER                  and then a line for each of the OFFICES listed:\n"
+    "    office   Q K RANK OFFICE PLACE LOW HIGH STAGES GAZETTEER    the road is LOW to HIGH furlongs long; STAGES were walked\n"
     "    refused  Q K NUMBER\n"
-    "    unasked  COUNT                                    no question: line number COUNT, or question number COUNT of the arguments\n"
-    "    refused-sheet  NUMBER                             alone: no question is asked\n"
+    "    unasked  COUNT             no question: line number COUNT, or question number COUNT of the arguments\n"
+    "    refused-sheet  NUMBER      alone: no question is asked\n"
+    "Q is a place number there, however it was written; GAZETTEER is the gazetteer number of Q after listed, of PLACE after office.\n"
     "Exit status: 0 every question answered; 1 the sheet or a question refused; 2 something could not be asked or written.\n";
 
 /* Exit statuses; of several the highest counts. */
@@ -39,7 +42,8 @@ struct host {
     bool cannot_write;
     unsigned char *sheet;
     size_t sheet_bytes;
-    /* M, and the sheet's word that has the place of office 0 */
+    /* N and M, and the sheet's word that has the place of office 0 */
+    unsigned int places;
     unsigned int offices;
     size_t first_office;
     /* lent to every question */
@@ -68,19 +72,23 @@ struct refusal {
 
 #define SEND_BACK "Send the sheet back to the atlas house, naming the number."
 #define AS_BYTES " A sheet written as text must be turned into bytes first: ./sheet bytes."
+#define OLD_FORM " A sheet from before places had gazetteer numbers is of another form: ask for its new issue."
 #define NEVER_HERE "Never met here, where enough is lent and the sheet is checked first: the program is at fault, and not the sheet."
 
 /* The meanings are those of docs/REFUSALS.md. */
 static const struct refusal refusals[] = {
     [ATLAS_CUT_SHORT] =
         {"The sheet is not whole: it ends too early, has something after its last section, or its length is no multiple of 4 bytes.",
-         "Fetch the file again, since copying may have cut it." AS_BYTES
+         "Fetch the file again, since copying may have cut it." AS_BYTES OLD_FORM
          " If the number stays, send the sheet back to the atlas house, naming the number."},
     [ATLAS_BAD_COUNT] =
         {"A section has too few or too many records: a sheet has 1 to 1,024 places, up to 8,192 stages, up to 262,144 blocks and up"
          " to 4,096 offices.",
-         SEND_BACK AS_BYTES},
-    [ATLAS_BAD_PLACES] = {"The places break a rule: x or y is above 1,023, or two places share a cell.", SEND_BACK},
+         SEND_BACK AS_BYTES OLD_FORM},
+    [ATLAS_BAD_PLACES] =
+        {"The places break a rule: x or y is above 1,023, or two places share a cell, or a gazetteer number is 0, or two places have"
+         " the same one.",
+         SEND_BACK OLD_FORM},
     [ATLAS_BAD_STAGES] =
         {"The stages break a rule: a stage names a place that is not on the sheet, or begins and ends at one place, or has a length"
          " outside 1 to 65,535; or the stages do not strictly ascend by tail and head; or more than 8 leave a place.",
@@ -93,7 +101,8 @@ static const struct refusal refusals[] = {
     [ATLAS_BAD_OFFICES] = {"An office stands at a place that is not on the sheet.", SEND_BACK},
     [ATLAS_BAD_Q] =
         {"The place asked about is not on the sheet.",
-         "Ask again with a place number that is. Places are numbered from 0, so the last number is one less than their count."},
+         "Ask again with a place number that is. Places are numbered from 0, so the last number is one less than their count. Place"
+         " numbers shift with each sheet: a place can also be asked for by its gazetteer number, as #103."},
     [ATLAS_BAD_K] =
         {"No office was asked for, or more than the sheet has.",
          "Ask again for at least 1 office and at most as many as the sheet has."},
@@ -190,16 +199,25 @@ static void tell_counted(double count, const char *thing)
     printf("%.0f %s%s", count, thing, count == 1 ? "" : "s");
 }
 
+/* Of a place that is below N. */
+static unsigned int gazetteer_of(const struct host *host, unsigned int place)
+{
+    return atlas_word32(host->sheet, 1 + (size_t)place * ATLAS_PLACE_WORDS + ATLAS_PLACE_GAZETTEER);
+}
+
 static void tell_refused(const struct host *host, unsigned int q, unsigned int k, unsigned int number)
 {
     if (host->columns) {
         printf("refused\t%u\t%u\t%u\n", q, k, number);
-    } else {
-        printf("Refused, number %u (", number);
-        tell_counted(k, "office");
-        printf(" from place %u). ", q);
-        tell_meaning(number);
+        return;
     }
+    printf("Refused, number %u (", number);
+    tell_counted(k, "office");
+    printf(" from place %u", q);
+    if (q < host->places)
+        printf(", #%u", gazetteer_of(host, q));
+    printf("). ");
+    tell_meaning(number);
 }
 
 static double in_line(const struct host *host, unsigned int rank, unsigned int which)
@@ -215,13 +233,13 @@ static unsigned int place_of(const struct host *host, unsigned int office)
 static void tell_columns(const struct host *host, unsigned int q, unsigned int k)
 {
     unsigned int rank;
-    printf("listed\t%u\t%u\t%.0f\t%.0f\n", q, k, atlas_word64(host->counts, ATLAS_COUNT_LISTED),
-           atlas_word64(host->counts, ATLAS_COUNT_REFINEMENTS));
+    printf("listed\t%u\t%u\t%.0f\t%.0f\t%u\n", q, k, atlas_word64(host->counts, ATLAS_COUNT_LISTED),
+           atlas_word64(host->counts, ATLAS_COUNT_REFINEMENTS), gazetteer_of(host, q));
     for (rank = 0; rank < k; rank++) {
         unsigned int office = (unsigned int)in_line(host, rank, ATLAS_LINE_OFFICE);
-        printf("office\t%u\t%u\t%u\t%u\t%u\t%.0f\t%.0f\t%.0f\n", q, k, rank + 1, office, place_of(host, office),
+        printf("office\t%u\t%u\t%u\t%u\t%u\t%.0f\t%.0f\t%.0f\t%.0f\n", q, k, rank + 1, office, place_of(host, office),
                in_line(host, rank, ATLAS_LINE_LOW_END), in_line(host, rank, ATLAS_LINE_HIGH_END),
-               in_line(host, rank, ATLAS_LINE_STAGES_WALKED));
+               in_line(host, rank, ATLAS_LINE_STAGES_WALKED), in_line(host, rank, ATLAS_LINE_GAZETTEER));
     }
 }
 
@@ -230,7 +248,8 @@ static void tell_office(const struct host *host, unsigned int rank)
     unsigned int office = (unsigned int)in_line(host, rank, ATLAS_LINE_OFFICE);
     double low = in_line(host, rank, ATLAS_LINE_LOW_END);
     double high = in_line(host, rank, ATLAS_LINE_HIGH_END);
-    printf("  %u. office %u (at place %u): ", rank + 1, office, place_of(host, office));
+    printf("  %u. office %u (at place %u, #%.0f): ", rank + 1, office, place_of(host, office),
+           in_line(host, rank, ATLAS_LINE_GAZETTEER));
     if (low == high)
         printf("exactly ");
     else
@@ -245,9 +264,10 @@ static void tell_words(const struct host *host, unsigned int q, unsigned int k)
 {
     unsigned int rank;
     if (k == 1)
-        printf("The office nearest by road from place %u:\n", q);
+        printf("The office");
     else
-        printf("The %u offices nearest by road from place %u:\n", k, q);
+        printf("The %u offices", k);
+    printf(" nearest by road from place %u (#%u):\n", q, gazetteer_of(host, q));
     for (rank = 0; rank < k; rank++)
         tell_office(host, rank);
     tell_counted(atlas_word64(host->counts, ATLAS_COUNT_REFINEMENTS), "refinement");
@@ -287,10 +307,11 @@ static void show(struct word word)
     putc('"', stderr);
 }
 
+static const char no_number[] = "is not a number (digits alone, no commas, no sign)";
+
 /* The number that a word gives; what is returned is what is wrong with it, or NULL. */
 static const char *read_number(struct word word, unsigned int *number)
 {
-    static const char no_number[] = "is not a number (digits alone, no commas, no sign)";
     const char *fault = NULL;
     size_t i;
     *number = 0;
@@ -305,26 +326,58 @@ static const char *read_number(struct word word, unsigned int *number)
     return word.length == 0 ? no_number : fault;
 }
 
+/* Finds the place that has a gazetteer number: one at the most, since the sheet was accepted. */
+static bool find_place(const struct host *host, unsigned int gazetteer, unsigned int *place)
+{
+    for (*place = 0; *place < host->places; ++*place) {
+        if (gazetteer_of(host, *place) == gazetteer)
+            return true;
+    }
+    return false;
+}
+
+/* The place that a word names, by its number or by # and its gazetteer number; what is returned is as above. */
+static const char *read_place(const struct host *host, struct word word, unsigned int *place)
+{
+    unsigned int gazetteer;
+    const char *fault;
+    if (word.length == 0 || word.text[0] != '#')
+        return read_number(word, place);
+    fault = read_number((struct word){word.text + 1, word.length - 1}, &gazetteer);
+    if (fault == no_number)
+        return "is no gazetteer number (# and then digits alone, as in #103)";
+    if (fault == NULL && gazetteer == 0)
+        return "is no gazetteer number, since none is 0";
+    if (fault == NULL && !find_place(host, gazetteer, place))
+        return "is the gazetteer number of no place of this sheet";
+    return fault;
+}
+
+static enum status tell_fault(const struct host *host, const struct written *written, struct word word, const char *fault)
+{
+    tell_unasked(host, written);
+    show(word);
+    fprintf(stderr, " %s\n", fault);
+    return NOT_ASKED;
+}
+
 static enum status ask_written(struct host *host, const struct written *written)
 {
-    unsigned int numbers[2];
-    size_t i;
+    unsigned int q, k;
+    const char *fault;
     if (written->word_count != 2) {
         tell_unasked(host, written);
         fprintf(stderr, "too %s numbers (%lu); expected a question as 2 numbers: Q K\n", written->word_count < 2 ? "few" : "many",
                 (unsigned long)written->word_count);
         return NOT_ASKED;
     }
-    for (i = 0; i < 2; i++) {
-        const char *fault = read_number(written->words[i], &numbers[i]);
-        if (fault != NULL) {
-            tell_unasked(host, written);
-            show(written->words[i]);
-            fprintf(stderr, " %s\n", fault);
-            return NOT_ASKED;
-        }
-    }
-    return ask(host, numbers[0], numbers[1]);
+    fault = read_place(host, written->words[0], &q);
+    if (fault != NULL)
+        return tell_fault(host, written, written->words[0], fault);
+    fault = read_number(written->words[1], &k);
+    if (fault != NULL)
+        return tell_fault(host, written, written->words[1], fault);
+    return ask(host, q, k);
 }
 
 static enum status not_written(void)
@@ -446,13 +499,14 @@ static bool check(const struct host *host, unsigned int *number)
     return true;
 }
 
-/* Finds the offices of a sheet that was accepted, and lends for as many as there are: whoever asks for more is refused. */
+/* Finds the places and offices of a sheet that was accepted, and lends for as many as there are: whoever asks for more is refused. */
 static bool prepare(struct host *host)
 {
     static const size_t record_words[] = {ATLAS_PLACE_WORDS, ATLAS_STAGE_WORDS, ATLAS_BLOCK_WORDS};
     size_t section, count_at = 0;
     for (section = 0; section < 3; section++)
         count_at += 1 + record_words[section] * atlas_word32(host->sheet, count_at);
+    host->places = atlas_word32(host->sheet, 0);
     host->offices = atlas_word32(host->sheet, count_at);
     host->first_office = count_at + 1;
     return lend(&host->answer, ATLAS_ANSWER_BYTES(host->offices)) && lend(&host->working, ATLAS_WORKING_BYTES(host->offices));

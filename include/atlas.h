@@ -11,10 +11,17 @@
 
    A SHEET is bytes: 32-bit words, low byte first, in four sections, each a count and then its records:
 
-       places     x, y                                               N of them, numbered from 0
+       places     x, y, gazetteer number                             N of them, numbered from 0
        stages     tail, head, length                                 one way; lengths are in furlongs
        blocks     place, code, level, colour, low ratio, high ratio
        offices    place                                              M of them, numbered from 0
+
+   A gazetteer number is not 0, and different for every place of a sheet. Stages, blocks, offices and questions name a place by its place
+   number, which shifts with each sheet; a listed office comes with the gazetteer number of its place.
+
+   Sheets from before places had gazetteer numbers are of another form and are refused, mostly by 1 or 2: their new issue is needed. A
+   host that was compiled with the header of that time must be compiled again: it lends too little and is refused by 9, or, where it
+   lends more than is needed, takes lines of five words for lines of four.
 
    A ratio is a road length in furlongs over a crow distance, in 4,096ths. The crow distance of two places that are dx apart in x and dy
    in y is the largest whole number whose square is at most 4,096 * (dx^2 + dy^2): it counts in 64ths of a cell, and between different
@@ -46,21 +53,23 @@
 
 /* The stack that a call needs, in bytes, whatever the sheet. A thread must have this much left; one that has less is stopped at its
    guard page, if it has one. tests/catalogue measures that it is enough. */
-#define ATLAS_STACK_BYTES 458752
+#define ATLAS_STACK_BYTES 507904
 
 /* The most records of each section (the least is 1 place, and 0 of the others), and the bytes of the largest sheet that there is. */
 #define ATLAS_PLACES_MOST 1024
 #define ATLAS_STAGES_MOST 8192
 #define ATLAS_BLOCKS_MOST 262144
 #define ATLAS_OFFICES_MOST 4096
-#define ATLAS_SHEET_MOST 6414352
+#define ATLAS_SHEET_MOST 6418448
 
 /* The 32-bit words of a record. The count of a section follows the last record of the one before: N is word 0 of the sheet, and M is word
-   3 + ATLAS_PLACE_WORDS * N + ATLAS_STAGE_WORDS * (count of stages) + ATLAS_BLOCK_WORDS * (count of blocks). */
-#define ATLAS_PLACE_WORDS 2
+   3 + ATLAS_PLACE_WORDS * N + ATLAS_STAGE_WORDS * (count of stages) + ATLAS_BLOCK_WORDS * (count of blocks). The gazetteer number of
+   place p is word 1 + ATLAS_PLACE_WORDS * p + ATLAS_PLACE_GAZETTEER. */
+#define ATLAS_PLACE_WORDS 3
 #define ATLAS_STAGE_WORDS 3
 #define ATLAS_BLOCK_WORDS 6
 #define ATLAS_OFFICE_WORDS 1
+#define ATLAS_PLACE_GAZETTEER 2
 
 /* The numbers that are returned. Each is given exactly when its condition is the first met, so a sheet may have more faults than the one
    told. The layout is tested in this order: a length in whole words (1); section by section, the count there (1), in its range (2), the
@@ -73,7 +82,8 @@
 /* the layout of the sheet, tested by both functions */
 #define ATLAS_CUT_SHORT 1U        /* byte length no multiple of 4, a section or count cut short, words after the last section */
 #define ATLAS_BAD_COUNT 2U        /* a count outside its range */
-#define ATLAS_BAD_PLACES 3U       /* the places break a layout rule: x or y above 1,023, or two places in one cell */
+#define ATLAS_BAD_PLACES 3U       /* the places break a layout rule: x or y above 1,023, two places in one cell, a gazetteer number
+                                     that is 0, or the same one at two places */
 #define ATLAS_BAD_STAGES 4U       /* the stages do: a place not on the sheet, from a place to itself, a length outside 1 to 65,535,
                                      not strictly ascending by (tail, head), or more than 8 from one place */
 #define ATLAS_BAD_BLOCKS 5U       /* the blocks do: a place not on the sheet, a colour that its place has not, a level above 10, a
@@ -130,7 +140,7 @@ unsigned int atlas_check(const unsigned char *sheet, size_t sheet_bytes, unsigne
    working     at least ATLAS_WORKING_BYTES(M) bytes; else 9
    counts      at least ATLAS_COUNTS_BYTES bytes; else 9
 
-   Afterwards   0               answer has four 64-bit words for each listed office, as named below; the first
+   Afterwards   0               answer has five 64-bit words for each listed office, as named below; the first
                                 ATLAS_WORKING_BYTES(M) bytes of working are 0
                 1 to 9          answer and working are untouched
                 16 to 18        their first ATLAS_ANSWER_BYTES(k) and ATLAS_WORKING_BYTES(M) bytes are 0
@@ -148,21 +158,22 @@ unsigned int atlas_question(const unsigned char *sheet, size_t sheet_bytes, unsi
 /* How many bytes to lend. A host that lends for the largest sheet needs to know neither N nor M: there are constants for arrays. (The
    exact bytes of distances are worked out by a function, and are no constant expression.) */
 #define ATLAS_DISTANCES_BYTES(places) (4 * atlas_square(places))
-#define ATLAS_ANSWER_BYTES(k) ((size_t)(k) * 32)
+#define ATLAS_ANSWER_BYTES(k) ((size_t)(k) * 40)
 #define ATLAS_WORKING_BYTES(offices) ((size_t)(offices) * 48)
 #define ATLAS_COUNTS_BYTES 16
 
 #define ATLAS_DISTANCES_MOST 4194304
-#define ATLAS_ANSWER_MOST 131072
+#define ATLAS_ANSWER_MOST 163840
 #define ATLAS_WORKING_MOST 196608
 
 /* The 64-bit words of answer: listed office number j has these, counted from word j * ATLAS_LINE_WORDS. On an accepted sheet the length
    of the shortest road lies between the two ends, ends included. */
-#define ATLAS_LINE_WORDS 4
+#define ATLAS_LINE_WORDS 5
 #define ATLAS_LINE_OFFICE 0
 #define ATLAS_LINE_LOW_END 1
 #define ATLAS_LINE_HIGH_END 2
 #define ATLAS_LINE_STAGES_WALKED 3
+#define ATLAS_LINE_GAZETTEER 4 /* of the place where the office stands */
 
 /* The 64-bit words of counts. */
 #define ATLAS_COUNT_LISTED 0

@@ -1,5 +1,5 @@
-//! The independent second program: answers by the plainest means, written from document 01 and items 1, 8 and 11 of
-//! document 02 alone.
+//! The independent second program: answers by the plainest means, written from document 01 and items 1, 2, 8 and 11
+//! of document 02 alone.
 //! Its commands print what the proved program should print, make inputs, and test themselves.
 
 mod inputs;
@@ -18,7 +18,7 @@ const USAGE: &str = "usage: second answer | check | question Q K | make SEED COU
     | selftest [SEED COUNT]";
 
 const USUAL_SEED: u64 = 1;
-const USUAL_COUNT: u64 = 4_000;
+const USUAL_COUNT: u64 = 5_000;
 
 fn main() -> ExitCode {
     let arguments: Vec<String> = std::env::args().skip(1).collect();

@@ -1,8 +1,11 @@
 //! A sheet's sections to and from bytes: 32-bit words, low byte first, each section after its count.
 
-use crate::sections::{Sheet, SECTIONS};
+use crate::sections::{Section, Sheet, OLD_PLACE_WORDS, PLACES, SECTIONS};
 
 const WORD_BYTES: usize = 4;
+
+const OLD_FORM: &str = "with two words to a place it would be whole: it is from before places had gazetteer numbers; \
+    ask the atlas house for its new issue";
 
 pub fn bytes_of(words: &[u32]) -> Vec<u8> {
     words.iter().flat_map(|word| word.to_le_bytes()).collect()
@@ -25,10 +28,19 @@ pub fn read(bytes: &[u8]) -> Result<Sheet, String> {
     }
     let words: Vec<u32> =
         bytes.chunks_exact(WORD_BYTES).map(|b| u32::from_le_bytes([b[0], b[1], b[2], b[3]])).collect();
+    split(&words, SECTIONS[PLACES].fields.len()).map_err(|fault| match split(&words, OLD_PLACE_WORDS) {
+        Ok(_) => format!("{fault}; {OLD_FORM}"),
+        Err(_) => fault,
+    })
+}
+
+/// The sections of a sheet whose places have so many words.
+fn split(words: &[u32], place_words: usize) -> Result<Sheet, String> {
     let mut sheet = Sheet::default();
-    let mut rest = &words[..];
-    for section in 0..SECTIONS.len() {
-        sheet.words[section] = take(section, &mut rest)?;
+    let mut rest = words;
+    for (section, Section { fields, .. }) in SECTIONS.iter().enumerate() {
+        let width = if section == PLACES { place_words } else { fields.len() };
+        sheet.words[section] = take(section, width, &mut rest)?;
     }
     match rest.len() {
         0 => Ok(sheet),
@@ -37,10 +49,10 @@ pub fn read(bytes: &[u8]) -> Result<Sheet, String> {
 }
 
 /// The words of one section, which is its count and then its records.
-fn take(section: usize, rest: &mut &[u32]) -> Result<Vec<u32>, String> {
+fn take(section: usize, width: usize, rest: &mut &[u32]) -> Result<Vec<u32>, String> {
     let word = SECTIONS[section].word;
     let (&count, after) = rest.split_first().ok_or(format!("cut short: the count of {word} is missing"))?;
-    let need = count as usize * SECTIONS[section].fields.len();
+    let need = count as usize * width;
     let left = after.len();
     let (records, later) = after
         .split_at_checked(need)

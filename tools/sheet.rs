@@ -1,12 +1,14 @@
 //! Turns a sheet written as text into bytes and back, and serves ./ask: the program's input, and its answer in words.
 //! It judges no layout rule, so that faulty sheets can be made too: judging is the check's work.
 
+mod asked;
 mod bytes;
 mod refusals;
 mod sections;
 mod text;
 mod words;
 
+use asked::Asked;
 use sections::{number, Sheet};
 use std::ffi::OsString;
 use std::io::{self, IsTerminal, Read, Write};
@@ -21,7 +23,7 @@ The result goes to the file OUT, or to standard output.
 
 The text has one record to a line, as numbers with spaces between; # begins a comment; blank lines are skipped.
 Four sections in this order, each begun by its word alone on a line, also where it is empty:
-    places     x y
+    places     x y gazetteer
     stages     tail head length
     blocks     place code level colour low high
     offices    place
@@ -33,6 +35,9 @@ struct Failure(u8, String);
 
 const BAD_FILE: u8 = 1;
 const BAD_USAGE: u8 = 2;
+
+const NOT_LOOKED_UP: &str = "a gazetteer number cannot be looked up in a sheet that is not whole \
+    (asked with a place number, the program tells by what number it refuses the sheet): ";
 
 /// The exit status of a refusal told in words.
 const REFUSED: u8 = 1;
@@ -96,15 +101,27 @@ fn is_text(file: &Path) -> bool {
     file.extension().is_some_and(|end| end.eq_ignore_ascii_case("txt"))
 }
 
-/// The number that an argument gives, told by its name where it is none.
-fn argument(name: &str, written: &Path) -> Result<u32, Failure> {
-    number(&written.to_string_lossy()).map_err(|fault| Failure(BAD_USAGE, format!("{name}: {fault}")))
+/// A fault of an argument, told by the argument's name.
+fn bad(name: &str) -> impl Fn(String) -> Failure + '_ {
+    move |fault| Failure(BAD_USAGE, format!("{name}: {fault}"))
+}
+
+/// The number of the place asked about. A place number goes to the program as it is, whatever the sheet.
+fn place(q: Asked, sheet: &[u8]) -> Result<u32, Failure> {
+    if let Asked::Place(place) = q {
+        return Ok(place);
+    }
+    let whole = bytes::read(sheet).map_err(|fault| bad("Q")(NOT_LOOKED_UP.to_string() + &fault))?;
+    q.place(&whole).map_err(bad("Q"))
 }
 
 /// The program's input: q and k, then the sheet. Bytes go as they are, so that the program sees their faults.
 fn input(file: &Path, q: &Path, k: &Path) -> Result<Vec<u8>, Failure> {
-    let mut input = bytes::bytes_of(&[argument("Q", q)?, argument("K", k)?]);
-    input.extend(if is_text(file) { bytes::write(&from_text(file)?) } else { get(file)? });
+    let q = asked::read(&q.to_string_lossy()).map_err(bad("Q"))?;
+    let k = number(&k.to_string_lossy()).map_err(bad("K"))?;
+    let sheet = if is_text(file) { bytes::write(&from_text(file)?) } else { get(file)? };
+    let mut input = bytes::bytes_of(&[place(q, &sheet)?, k]);
+    input.extend(sheet);
     Ok(input)
 }
 
@@ -112,12 +129,13 @@ fn input(file: &Path, q: &Path, k: &Path) -> Result<Vec<u8>, Failure> {
 fn answer(file: &Path, q: &Path) -> Result<u8, Failure> {
     let strange = |printed: &str| Failure(BAD_USAGE, format!("the program printed what is no answer: {printed:?}"));
     let mut printed = String::new();
-    let q = argument("Q", q)?;
+    let q = asked::read(&q.to_string_lossy()).map_err(bad("Q"))?;
     io::stdin().read_to_string(&mut printed).map_err(|_| strange("not text"))?;
     let (text, status) = match words::read(&printed) {
         Some(words::Answer::Refused(number)) => (words::refused(number), REFUSED),
         Some(words::Answer::Listed { lines, refinements }) => {
             let sheet = if is_text(file) { from_text(file)? } else { from_bytes(file)? };
+            let q = q.place(&sheet).map_err(bad("Q"))?;
             (words::listed(&sheet, q, &lines, refinements), 0)
         }
         None => (None, BAD_USAGE),

@@ -1,10 +1,14 @@
 //! A sheet's sections to and from text for people: a section's word on its own line, then one record to a line.
 
-use crate::sections::{number, Section, Sheet, OFFICES, PLACES, SECTIONS, STAGES};
+use crate::sections::{number, Section, Sheet, OFFICES, OLD_PLACE_WORDS, PLACES, SECTIONS, STAGES};
 use std::collections::HashMap;
 
 /// Where the remarks begin in written text; they are for the reader and say nothing to the sheet.
 const REMARK_COLUMN: usize = 28;
+
+/// # would begin a comment, and the number be missed again.
+const OLD_FORM: &str = "; before places had gazetteer numbers two were enough: ask the atlas house for the sheet's \
+    new issue, or write each place's gazetteer number, without #, at the end of its line";
 
 /// The sections that a text holds, or its first bad line (numbered from 1) and what is wrong there.
 pub fn read(text: &str) -> Result<Sheet, (usize, String)> {
@@ -34,7 +38,7 @@ fn read_line(items: &[&str], begun: &mut usize, sheet: &mut Sheet) -> Result<(),
         return Ok(());
     }
     let section = begun.checked_sub(1).ok_or("a record before any section; expected the word places")?;
-    sheet.words[section].extend(record(items, &SECTIONS[section])?);
+    sheet.words[section].extend(record(items, section)?);
     Ok(())
 }
 
@@ -58,14 +62,16 @@ fn begin(items: &[&str], begun: usize) -> Result<(), String> {
     }
 }
 
-fn record(items: &[&str], section: &Section) -> Result<Vec<u32>, String> {
-    let expected = expected(section);
+fn record(items: &[&str], section: usize) -> Result<Vec<u32>, String> {
+    let expected = expected(&SECTIONS[section]);
     let words: Result<Vec<u32>, String> = items.iter().map(|item| number(item)).collect();
     let words = words.map_err(|fault| format!("{fault}; {expected}"))?;
-    let few = if words.len() < section.fields.len() { "few" } else { "many" };
-    match words.len() == section.fields.len() {
+    let (count, due) = (words.len(), SECTIONS[section].fields.len());
+    let few = if count < due { "few" } else { "many" };
+    let old = if section == PLACES && count == OLD_PLACE_WORDS { OLD_FORM } else { "" };
+    match count == due {
         true => Ok(words),
-        false => Err(format!("too {few} numbers ({}); {expected}", words.len())),
+        false => Err(format!("too {few} numbers ({count}); {expected}{old}")),
     }
 }
 
@@ -109,10 +115,17 @@ fn remarks(sheet: &Sheet, section: usize) -> Vec<String> {
         *next += 1;
         *next - 1
     };
+    // Nothing is said of a place that the sheet has not.
+    let known = |before: &str, place: u32| {
+        sheet.gazetteer_of_place(place).map_or(String::new(), |number| format!("{before} #{number}"))
+    };
     let remark = |(index, record): (usize, &[u32])| match section {
         PLACES => format!("place {index}"),
-        STAGES => format!("colour {} of place {}", colour(record[0]), record[0]),
-        OFFICES => format!("office {index}"),
+        STAGES => {
+            let (tail, head) = (record[0], record[1]);
+            format!("colour {} of place {tail}{}{}", colour(tail), known(", from", tail), known(" to", head))
+        }
+        OFFICES => format!("office {index}{}", known(", at", record[0])),
         _ => String::new(),
     };
     sheet.records(section).enumerate().map(remark).collect()

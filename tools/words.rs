@@ -3,8 +3,8 @@
 use crate::refusals::refusal;
 use crate::sections::Sheet;
 
-/// Words of an office's line: number, low end, high end, stages walked.
-const LINE_WORDS: usize = 4;
+/// Words of an office's line: number, low end, high end, stages walked, gazetteer number of its place.
+const LINE_WORDS: usize = 5;
 
 type Line = [u64; LINE_WORDS];
 
@@ -39,17 +39,19 @@ pub fn refused(number: u64) -> Option<String> {
     Some(format!("Refused, number {number}. {}\nWhat to do: {}\n", known.meaning, known.remedy))
 }
 
-/// A list in words, or nothing where it names an office that the sheet has not.
+/// A list in words, or nothing where it names a place or an office that the sheet has not.
 pub fn listed(sheet: &Sheet, q: u32, lines: &[Line], refinements: u64) -> Option<String> {
+    let from = format!("nearest by road from place {q} (#{})", sheet.gazetteer_of_place(q)?);
     let mut text = match lines.len() {
-        1 => format!("The office nearest by road from place {q}:\n"),
-        count => format!("The {count} offices nearest by road from place {q}:\n"),
+        1 => format!("The office {from}:\n"),
+        count => format!("The {count} offices {from}:\n"),
     };
-    for (index, [number, low, high, stages]) in lines.iter().enumerate() {
+    for (index, [number, low, high, stages, gazetteer]) in lines.iter().enumerate() {
         let place = sheet.place_of_office(*number)?;
         let length = length(*low, *high);
         let stages = counted(*stages, "stage");
-        text += &format!("  {}. office {number} (at place {place}): {length}, {stages} walked\n", index + 1);
+        let office = format!("office {number} (at place {place}, #{gazetteer})");
+        text += &format!("  {}. {office}: {length}, {stages} walked\n", index + 1);
     }
     text += &format!("{} in all.\n", counted(refinements, "refinement"));
     Some(text)

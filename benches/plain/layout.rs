@@ -1,22 +1,22 @@
 //! The layout rules (refusals 1 to 6), by the library's method and faster; and one pass over all words, which no check
 //! of the layout can do without.
 
+use crate::plain::places::{hold_by_tables, hold_by_trees};
 use crate::plain::sections::*;
 use crate::rules::limits::*;
 use crate::rules::refusal::*;
 
-const CELLS: usize = (GRID_SIDE * GRID_SIDE) as usize;
 const ALL_CODES: u32 = GRID_SIDE * GRID_SIDE;
 
 /// How many stages leave each place.
 type Leaving = [u32; MOST_PLACES];
 
 pub fn same_method(sheet: &[u8]) -> Result<Sections<'_>, Number> {
-    laid(sheet, places_differ_by_pairs, blocks_hold_one_by_one)
+    laid(sheet, hold_by_trees, blocks_hold_one_by_one)
 }
 
 pub fn best(sheet: &[u8]) -> Result<Sections<'_>, Number> {
-    laid(sheet, places_differ_by_bits, blocks_hold_by_masks)
+    laid(sheet, hold_by_tables, blocks_hold_by_masks)
 }
 
 pub fn sum_of_words(sheet: &[u8]) -> u32 {
@@ -45,45 +45,6 @@ fn laid(
         return Err(BAD_OFFICES);
     }
     Ok(sections)
-}
-
-/// The cell as one number, if it is on the grid.
-#[inline(always)]
-fn cell_number(place: &[u8]) -> Option<u32> {
-    let (x, y) = (word(place, 0), word(place, 1));
-    (x < GRID_SIDE && y < GRID_SIDE).then_some(x * GRID_SIDE + y)
-}
-
-/// Each cell beside all cells before it.
-fn places_differ_by_pairs(places: &[u8]) -> bool {
-    let mut cells = [0; MOST_PLACES];
-    for (i, place) in places.chunks_exact(PLACE_BYTES).enumerate() {
-        let Some(cell) = cell_number(place) else {
-            return false;
-        };
-        // No early end: so the loop goes over several cells at once.
-        if cells[..i].iter().fold(false, |met, &other| met | (other == cell)) {
-            return false;
-        }
-        cells[i] = cell;
-    }
-    true
-}
-
-/// A bit for each cell of the grid.
-fn places_differ_by_bits(places: &[u8]) -> bool {
-    let mut met = vec![0u64; CELLS / 64];
-    for place in places.chunks_exact(PLACE_BYTES) {
-        let Some(cell) = cell_number(place) else {
-            return false;
-        };
-        let (bits, bit) = (&mut met[cell as usize / 64], 1 << (cell % 64));
-        if *bits & bit != 0 {
-            return false;
-        }
-        *bits |= bit;
-    }
-    true
 }
 
 fn stages_hold(stages: &[u8], places: u32, leaving: &mut Leaving) -> bool {

@@ -43,13 +43,13 @@ impl<'a> Walk<'a> {
         for line in answer.chunks_exact_mut(ANSWER_WORDS).take(k) {
             loop {
                 let office = office_of(self.waiting.least());
-                let trail = self.trails[office];
+                let (trail, stand) = (self.trails[office], self.sections.stand(office));
                 self.waiting.change(office, u64::MAX);
                 if key(trail.high, office) < self.waiting.least() {
-                    line.copy_from_slice(&trail.line(office));
+                    line.copy_from_slice(&trail.line(office, self.sections.gazetteer(stand)));
                     break;
                 }
-                let trail = self.refined(trail, self.sections.stand(office))?;
+                let trail = self.refined(trail, stand)?;
                 self.trails[office] = trail;
                 self.waiting.change(office, key(trail.low, office));
                 refinements += 1;

@@ -9,6 +9,7 @@ pub mod layout;
 pub mod listing;
 pub mod measure;
 pub mod outward;
+pub mod places;
 pub mod quick_listing;
 pub mod roads;
 pub mod sections;

@@ -67,13 +67,13 @@ impl<'a> Walk<'a> {
         for line in answer.chunks_exact_mut(ANSWER_WORDS).take(k) {
             loop {
                 let office = office_of(self.waiting.as_slice()[0].0);
-                let slot = self.slots[office];
+                let (slot, stand) = (self.slots[office], self.sections.stand(office));
                 if key(slot.trail.high, office) < self.least_other() {
-                    line.copy_from_slice(&slot.trail.line(office));
+                    line.copy_from_slice(&slot.trail.line(office, self.sections.gazetteer(stand)));
                     self.waiting.pop();
                     break;
                 }
-                let slot = self.refined(slot, self.sections.stand(office))?;
+                let slot = self.refined(slot, stand)?;
                 self.slots[office] = slot;
                 *self.waiting.peek_mut().expect("the leader") = Reverse(key(slot.trail.low, office));
                 refinements += 1;

@@ -70,6 +70,12 @@ impl<'a> Sections<'a> {
         self.offices.len() / WORD_BYTES
     }
 
+    /// The gazetteer number of place v.
+    #[inline(always)]
+    pub fn gazetteer(&self, v: usize) -> u32 {
+        word(self.places, PLACE_WORDS * v + 2)
+    }
+
     /// The place at which office i stands.
     #[inline(always)]
     pub fn stand(&self, i: usize) -> usize {

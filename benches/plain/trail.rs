@@ -51,7 +51,8 @@ impl Trail {
         }
     }
 
-    pub fn line(&self, office: usize) -> [u64; ANSWER_WORDS] {
-        [office as u64, self.low, self.high, self.stages as u64]
+    /// What is listed of an office at a place of this gazetteer number.
+    pub fn line(&self, office: usize, gazetteer: u32) -> [u64; ANSWER_WORDS] {
+        [office as u64, self.low, self.high, self.stages as u64, u64::from(gazetteer)]
     }
 }

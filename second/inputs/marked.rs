@@ -1,8 +1,8 @@
 //! The paper's sheet to work by.
 
-use crate::rules::sheet::{Block, Place, Sheet, Stage};
+use crate::rules::sheet::{Block, Cell, Place, Sheet, Stage};
 
-const PLACES: [[u32; 2]; 4] = [[0, 0], [3, 4], [6, 8], [0, 5]];
+const PLACES: [[u32; 3]; 4] = [[0, 0, 101], [3, 4, 102], [6, 8, 103], [0, 5, 104]];
 
 const STAGES: [[u32; 3]; 6] = [[0, 1, 6], [0, 3, 9], [1, 0, 6], [1, 2, 5], [2, 1, 5], [3, 0, 9]];
 
@@ -18,11 +18,15 @@ const BLOCKS: [[u32; 6]; 7] = [
 
 pub fn sheet() -> Sheet {
     Sheet {
-        places: PLACES.iter().map(|&[x, y]| Place::at(x, y)).collect(),
+        places: PLACES.iter().map(|&p| place(p)).collect(),
         stages: STAGES.iter().map(|&s| stage(s)).collect(),
         blocks: BLOCKS.iter().map(|&b| block(b)).collect(),
         offices: vec![0, 3, 1],
     }
+}
+
+pub fn place([x, y, gazetteer]: [u32; 3]) -> Place {
+    Place { cell: Cell::at(x, y), gazetteer }
 }
 
 pub fn stage([tail, head, length]: [u32; 3]) -> Stage {

@@ -10,6 +10,11 @@ impl Rng {
         Rng(start ^ stream.wrapping_mul(0xD6E8_FEB8_6659_FD93))
     }
 
+    /// A sequence of its own, for which nothing is taken from this one.
+    pub fn aside(&self) -> Rng {
+        Rng::new(self.0, 0)
+    }
+
     pub fn next(&mut self) -> u64 {
         self.0 = self.0.wrapping_add(0x9E37_79B9_7F4A_7C15);
         let mut z = self.0;

@@ -2,7 +2,8 @@
 
 use crate::rules::limits::*;
 use crate::rules::refusal::*;
-use crate::rules::sheet::{Block, Sheet, Stage};
+use crate::rules::sheet::{Block, Place, Sheet, Stage};
+use std::collections::BTreeSet;
 
 /// The sheet in the bytes, or the first of 1 to 6 that is due.
 pub fn read(bytes: &[u8]) -> Result<Sheet, Number> {
@@ -31,15 +32,18 @@ fn names_a_place(sheet: &Sheet, place: u32) -> bool {
 }
 
 fn places_hold(sheet: &Sheet) -> bool {
-    for (i, p) in sheet.places.iter().enumerate() {
-        if p.x >= GRID_SIDE || p.y >= GRID_SIDE {
-            return false;
-        }
-        if sheet.places[..i].contains(p) {
-            return false;
-        }
-    }
-    true
+    sheet.places.iter().all(place_holds)
+        && all_differ(sheet.places.iter().map(|p| p.cell))
+        && all_differ(sheet.places.iter().map(|p| p.gazetteer))
+}
+
+fn place_holds(p: &Place) -> bool {
+    p.cell.x < GRID_SIDE && p.cell.y < GRID_SIDE && p.gazetteer != 0
+}
+
+fn all_differ<T: Ord>(mut items: impl Iterator<Item = T>) -> bool {
+    let mut met = BTreeSet::new();
+    items.all(|item| met.insert(item))
 }
 
 fn stages_hold(sheet: &Sheet) -> bool {

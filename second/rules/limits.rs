@@ -12,7 +12,7 @@ pub const BLOCKS: RangeInclusive<u32> = 0..=262_144;
 pub const OFFICES: RangeInclusive<u32> = 0..=4_096;
 
 // Words of a record.
-pub const PLACE_WORDS: usize = 2;
+pub const PLACE_WORDS: usize = 3;
 pub const STAGE_WORDS: usize = 3;
 pub const BLOCK_WORDS: usize = 6;
 pub const OFFICE_WORDS: usize = 1;
@@ -28,7 +28,7 @@ pub const RATIO_UNIT: u64 = 4_096;
 pub const CROW_SCALE: u64 = 4_096;
 
 // Slices lent to a question, in long words; a C host lends the counts too.
-pub const ANSWER_WORDS: usize = 4;
+pub const ANSWER_WORDS: usize = 5;
 pub const WORKING_WORDS: usize = 6;
 pub const COUNT_WORDS: usize = 2;
 

@@ -22,7 +22,7 @@ impl<'a> Map<'a> {
         for tree in sheet.blocks.chunk_by(|a, b| a.place == b.place) {
             trees[tree[0].place as usize] = tree;
         }
-        let codes = sheet.places.iter().map(|&p| code_of(p)).collect();
+        let codes = sheet.places.iter().map(|p| code_of(p.cell)).collect();
         Map { sheet, codes, leaving, trees }
     }
 
@@ -50,7 +50,7 @@ impl<'a> Map<'a> {
     }
 
     pub fn crow(&self, u: usize, v: usize) -> Crow {
-        crow(self.sheet.places[u], self.sheet.places[v])
+        crow(self.sheet.places[u].cell, self.sheet.places[v].cell)
     }
 
     /// The interval from u to v, unless no block of u covers v.

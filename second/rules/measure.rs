@@ -1,7 +1,7 @@
 //! Cell codes, crow distances and intervals.
 
 use crate::rules::limits::*;
-use crate::rules::sheet::{Block, Place};
+use crate::rules::sheet::{Block, Cell};
 
 /// A crow distance, kept apart from road lengths as a kind of number.
 #[derive(Clone, Copy, PartialEq, Debug)]
@@ -31,16 +31,16 @@ impl Interval {
 }
 
 /// Bit i of x at bit 2i, bit i of y at bit 2i+1.
-pub fn code_of(p: Place) -> u64 {
+pub fn code_of(cell: Cell) -> u64 {
     let mut code = 0;
     for i in 0..TOP_LEVEL {
-        code |= u64::from(p.x >> i & 1) << (2 * i);
-        code |= u64::from(p.y >> i & 1) << (2 * i + 1);
+        code |= u64::from(cell.x >> i & 1) << (2 * i);
+        code |= u64::from(cell.y >> i & 1) << (2 * i + 1);
     }
     code
 }
 
-pub fn crow(a: Place, b: Place) -> Crow {
+pub fn crow(a: Cell, b: Cell) -> Crow {
     let dx = u64::from(a.x.abs_diff(b.x));
     let dy = u64::from(a.y.abs_diff(b.y));
     Crow(whole_root(CROW_SCALE * (dx * dx + dy * dy)))

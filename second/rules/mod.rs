@@ -1,5 +1,5 @@
-//! Document 01 as items 8 and 11 of document 02 leave it: its numbers, the sheet, the measures, the check, the question and
-//! the program; and item 1 of document 02.
+//! Document 01 as items 2, 8 and 11 of document 02 leave it: its numbers, the sheet, the measures, the check, the
+//! question and the program; and item 1 of document 02.
 
 pub mod check;
 pub mod host;

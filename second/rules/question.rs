@@ -5,6 +5,7 @@ use crate::rules::limits::*;
 use crate::rules::map::Map;
 use crate::rules::measure::Interval;
 use crate::rules::refusal::*;
+use crate::rules::sheet::Sheet;
 
 /// What a question returns besides the words of its slices.
 #[derive(Clone, Copy, PartialEq, Debug)]
@@ -77,7 +78,7 @@ pub fn question_watched(
     match walk(&Map::of(&sheet), q as usize, k as usize, watch) {
         Ok((list, refinements)) => {
             for (words, office) in answer.chunks_mut(ANSWER_WORDS).zip(&list) {
-                words.copy_from_slice(&answer_record(office));
+                words.copy_from_slice(&answer_record(&sheet, office));
             }
             Outcome { number: ACCEPTED, count: k, refinements }
         }
@@ -85,8 +86,9 @@ pub fn question_watched(
     }
 }
 
-fn answer_record(office: &Waiting) -> [u64; ANSWER_WORDS] {
-    [office.number as u64, office.interval.low, office.interval.high, office.stages]
+fn answer_record(sheet: &Sheet, office: &Waiting) -> [u64; ANSWER_WORDS] {
+    let gazetteer = u64::from(sheet.places[office.place].gazetteer);
+    [office.number as u64, office.interval.low, office.interval.high, office.stages, gazetteer]
 }
 
 /// The offices listed, in order, and the total of refinements; k is at most the offices.

@@ -4,10 +4,16 @@ use crate::rules::limits::*;
 use crate::rules::refusal::*;
 use std::ops::RangeInclusive;
 
-#[derive(Clone, Copy, PartialEq, Debug)]
-pub struct Place {
+#[derive(Clone, Copy, PartialEq, Eq, PartialOrd, Ord, Debug)]
+pub struct Cell {
     pub x: u32,
     pub y: u32,
+}
+
+#[derive(Clone, Copy, PartialEq, Debug)]
+pub struct Place {
+    pub cell: Cell,
+    pub gazetteer: u32,
 }
 
 #[derive(Clone, Copy, PartialEq, Debug)]
@@ -35,9 +41,9 @@ pub struct Sheet {
     pub offices: Vec<u32>,
 }
 
-impl Place {
-    pub fn at(x: u32, y: u32) -> Place {
-        Place { x, y }
+impl Cell {
+    pub fn at(x: u32, y: u32) -> Cell {
+        Cell { x, y }
     }
 }
 
@@ -66,7 +72,7 @@ impl Sheet {
 
     pub fn to_bytes(&self) -> Vec<u8> {
         let mut words = vec![self.places.len() as u32];
-        self.places.iter().for_each(|p| words.extend([p.x, p.y]));
+        self.places.iter().for_each(|p| words.extend([p.cell.x, p.cell.y, p.gazetteer]));
         words.push(self.stages.len() as u32);
         self.stages.iter().for_each(|s| words.extend([s.tail, s.head, s.length]));
         words.push(self.blocks.len() as u32);
@@ -115,7 +121,7 @@ fn section<'a>(
 }
 
 fn place(w: &[u32]) -> Place {
-    Place { x: w[0], y: w[1] }
+    Place { cell: Cell::at(w[0], w[1]), gazetteer: w[2] }
 }
 
 fn stage(w: &[u32]) -> Stage {

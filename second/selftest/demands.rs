@@ -3,7 +3,7 @@
 use crate::rules::limits::*;
 use crate::rules::question::{question_watched, Waiting};
 use crate::rules::refusal::Number;
-use crate::rules::sheet::Sheet;
+use crate::rules::sheet::{words_of, Sheet};
 use crate::selftest::oracle::{road, Road};
 use crate::selftest::plain::roads_from;
 use crate::tally::Tally;
@@ -11,6 +11,7 @@ use crate::tally::Tally;
 /// One question on an accepted sheet, with all that was seen of it.
 struct Seen<'a> {
     sheet: &'a Sheet,
+    words: Vec<u32>,
     list: Vec<u64>,
     total: u64,
     steps: Vec<(Waiting, Waiting)>,
@@ -30,7 +31,7 @@ pub fn hold(tally: &mut Tally, name: &str, sheet: &Sheet, q: usize, k: usize) {
     let known = roads_from(sheet, q);
     let distances = known.iter().map(|d| d.expect("an accepted sheet") as u64).collect();
     let roads = (0..sheet.places.len()).map(|v| road(sheet, q, v)).collect();
-    let seen = Seen { sheet, list, total: outcome.refinements, steps, distances, roads };
+    let seen = Seen { sheet, words: words_of(&bytes), list, total: outcome.refinements, steps, distances, roads };
     seen.nearest_are_listed(tally, name);
     seen.steps_narrow(tally, name);
     seen.named_roads_are_shortest(tally, name);
@@ -46,6 +47,11 @@ impl Seen<'_> {
         self.distances[self.place(office)]
     }
 
+    /// Of the place where an office stands: the third word of its record, the first of all being the count.
+    fn gazetteer(&self, office: usize) -> u64 {
+        u64::from(self.words[1 + 3 * self.place(office) + 2])
+    }
+
     fn first_low(&self, office: usize) -> u64 {
         self.roads[self.place(office)].ends[0].expect("an accepted sheet").0 as u64
     }
@@ -54,7 +60,8 @@ impl Seen<'_> {
         self.steps.iter().filter(|(before, _)| before.number == office).count() as u64
     }
 
-    /// Demand 2: all offices sorted by (D, number), the first k are the list, their ends enclose D.
+    /// Demand 2: all offices sorted by (D, number), the first k are the list, their ends enclose D. Each has the
+    /// gazetteer number of its place.
     fn nearest_are_listed(&self, tally: &mut Tally, name: &str) {
         let mut order: Vec<usize> = (0..self.sheet.offices.len()).collect();
         order.sort_by_key(|&office| (self.distance(office), office));
@@ -63,6 +70,7 @@ impl Seen<'_> {
             let distance = self.distance(office);
             tally.claim(record[1] <= distance && distance <= record[2], || format!("{name}: ends of {office}"));
             tally.same(name, record[3], self.spent(office));
+            tally.same(name, record[4], self.gazetteer(office));
         }
     }
 

@@ -1,9 +1,9 @@
 //! Self test: what a C host's bytes hold after the check and the question, by hand from the marked sheet: N = 4, M = 3.
 
-use crate::inputs::marked::{self, block, stage};
+use crate::inputs::marked::{self, block, place, stage};
 use crate::rules::host::{check, question};
 use crate::rules::refusal::Number;
-use crate::rules::sheet::{Place, Sheet};
+use crate::rules::sheet::Sheet;
 use crate::tally::Tally;
 
 /// D(u,v) of the marked sheet, by u and then v.
@@ -11,7 +11,7 @@ const ROADS: [u32; 16] = [0, 6, 11, 9, 6, 0, 5, 15, 11, 5, 0, 20, 9, 15, 20, 0];
 const TABLE: usize = 64;
 
 /// How long the answer, the working slice and the counts are for k = 2.
-const EXACT: [usize; 3] = [64, 144, 16];
+const EXACT: [usize; 3] = [80, 144, 16];
 const NAMES: [&str; 3] = ["answer", "working", "counts"];
 
 pub fn run(tally: &mut Tally) {
@@ -108,7 +108,7 @@ fn no_table(tally: &mut Tally) {
     let sheets = [
         (1, Vec::new()),
         (2, vec![0; 8]),
-        (3, changed(|sheet| sheet.places[0].x = 1_024)),
+        (3, changed(|sheet| sheet.places[0].cell.x = 1_024)),
         (4, changed(|sheet| sheet.stages[0].length = 0)),
         (5, changed(|sheet| sheet.blocks[0].level = 11)),
         (6, changed(|sheet| sheet.offices[0] = 4)),
@@ -120,16 +120,18 @@ fn no_table(tally: &mut Tally) {
 
 fn listings(tally: &mut Tally) {
     let sheet = marked::sheet().to_bytes();
-    let list = long_bytes(&[2, 5, 5, 1, 0, 11, 11, 2]);
+    let list = long_bytes(&[2, 5, 5, 1, 102, 0, 11, 11, 2, 101]);
     let counts = long_bytes(&[2, 5]);
     for more in [[0, 0, 0], [1, 0, 0], [0, 1, 0], [0, 0, 1], [7, 5, 3], [8, 8, 8], [900, 800, 700]] {
         let lengths = [0, 1, 2].map(|i| EXACT[i] + more[i]);
         asks(tally, "k = 2", &sheet, (2, 2), lengths, (0, [&list, &[0; 144], &counts]));
     }
     let counts = long_bytes(&[1, 1]);
-    asks(tally, "k = 1", &sheet, (2, 1), EXACT, (0, [&list[..32], &[0; 144], &counts]));
-    asks(tally, "k = 1, 32 bytes", &sheet, (2, 1), [32, 144, 16], (0, [&list[..32], &[0; 144], &counts]));
-    asks(tally, "k = 1, 31 bytes", &sheet, (2, 1), [31, 144, 16], (9, [&[], &[], &[0; 16]]));
+    asks(tally, "k = 1", &sheet, (2, 1), EXACT, (0, [&list[..40], &[0; 144], &counts]));
+    asks(tally, "k = 1, 40 bytes", &sheet, (2, 1), [40, 144, 16], (0, [&list[..40], &[0; 144], &counts]));
+    for length in [39, 36, 32, 31] {
+        asks(tally, "k = 1, too few bytes", &sheet, (2, 1), [length, 144, 16], (9, [&[], &[], &[0; 16]]));
+    }
 }
 
 fn short_slices(tally: &mut Tally) {
@@ -138,23 +140,26 @@ fn short_slices(tally: &mut Tally) {
         asks(tally, "9", &sheet, (2, 2), lengths, (9, [&[], &[], counts]));
     };
     for counts in [16, 17, 1_000] {
-        nine([63, 144, counts], &[0; 16]);
-        nine([64, 143, counts], &[0; 16]);
-        nine([56, 136, counts], &[0; 16]);
+        nine([79, 144, counts], &[0; 16]);
+        nine([72, 144, counts], &[0; 16]);
+        // Four words to an office.
+        nine([64, 144, counts], &[0; 16]);
+        nine([80, 143, counts], &[0; 16]);
+        nine([72, 136, counts], &[0; 16]);
         nine([0, 144, counts], &[0; 16]);
-        nine([64, 0, counts], &[0; 16]);
+        nine([80, 0, counts], &[0; 16]);
     }
     for counts in [0, 1, 8, 15] {
-        nine([64, 144, counts], &[]);
+        nine([80, 144, counts], &[]);
         nine([1_000, 1_000, counts], &[]);
-        nine([63, 143, counts], &[]);
+        nine([79, 143, counts], &[]);
     }
 }
 
 /// 1 to 8 come before 9, and clear counts that have their 16 bytes.
 fn earlier_numbers(tally: &mut Tally) {
     let sheet = marked::sheet().to_bytes();
-    for slices in [[0, 0], [64, 144], [100, 200]] {
+    for slices in [[0, 0], [80, 144], [100, 200]] {
         for counts in [0, 7, 15, 16, 17, 40] {
             let lengths = [slices[0], slices[1], counts];
             let cleared: &[u8] = if counts < 16 { &[] } else { &[0; 16] };
@@ -164,7 +169,7 @@ fn earlier_numbers(tally: &mut Tally) {
             asks(tally, "k of all bits", &sheet, (2, u32::MAX), lengths, left(8));
             asks(tally, "q = 4", &sheet, (4, 0), lengths, left(7));
             asks(tally, "q of all bits", &sheet, (u32::MAX, 2), lengths, left(7));
-            asks(tally, "a sheet cut", &sheet[..299], (4, 0), lengths, left(1));
+            asks(tally, "a sheet cut", &sheet[..315], (4, 0), lengths, left(1));
             asks(tally, "no sheet", &[], (2, 2), lengths, left(1));
         }
     }
@@ -173,7 +178,7 @@ fn earlier_numbers(tally: &mut Tally) {
 /// Places 0 and 1 send every letter to each other, and two offices wait at place 2.
 fn round_and_round() -> Sheet {
     Sheet {
-        places: vec![Place::at(0, 0), Place::at(1, 0), Place::at(9, 9)],
+        places: vec![place([0, 0, 61]), place([1, 0, 62]), place([9, 9, 63])],
         stages: vec![stage([0, 1, 1]), stage([1, 0, 1]), stage([2, 0, 1])],
         blocks: vec![block([0, 0, 10, 0, 0, 5_000]), block([1, 0, 10, 0, 0, 5_000])],
         offices: vec![2, 2],
@@ -187,27 +192,30 @@ fn walks_refused(tally: &mut Tally) {
     let mut crossed = round_and_round();
     crossed.blocks[1] = block([1, 0, 10, 0, 10_000, 10_000]);
     for (sheet, due) in [(round, 16), (unseen, 17), (crossed, 18)] {
-        let (sheet, cleared) = (sheet.to_bytes(), (due, [&[0; 32][..], &[0; 96], &[0; 16]]));
-        asks(tally, "a walk", &sheet, (0, 1), [32, 96, 16], cleared);
-        asks(tally, "a walk, bytes beyond", &sheet, (0, 1), [47, 103, 23], cleared);
-        asks(tally, "a walk, no counts", &sheet, (0, 1), [32, 96, 15], (9, [&[], &[], &[]]));
-        asks(tally, "a walk, short working", &sheet, (0, 1), [32, 95, 16], (9, [&[], &[], &[0; 16]]));
+        let (sheet, cleared) = (sheet.to_bytes(), (due, [&[0; 40][..], &[0; 96], &[0; 16]]));
+        asks(tally, "a walk", &sheet, (0, 1), [40, 96, 16], cleared);
+        asks(tally, "a walk, bytes beyond", &sheet, (0, 1), [55, 103, 23], cleared);
+        asks(tally, "a walk, no counts", &sheet, (0, 1), [40, 96, 15], (9, [&[], &[], &[]]));
+        asks(tally, "a walk, short working", &sheet, (0, 1), [40, 95, 16], (9, [&[], &[], &[0; 16]]));
+        asks(tally, "a walk, short answer", &sheet, (0, 1), [39, 96, 16], (9, [&[], &[], &[0; 16]]));
     }
 }
 
-/// Two places whose road is 258 furlongs, 2 and 1 × 256; 16,512 × 64 / 4,096 is 258.
+/// Two places whose road is 258 furlongs, 2 and 1 × 256; 16,512 × 64 / 4,096 is 258. The listed office's
+/// gazetteer number has all its four bytes.
 fn low_bytes_first(tally: &mut Tally) {
     let sheet = Sheet {
-        places: vec![Place::at(0, 0), Place::at(1, 0)],
+        places: vec![place([0, 0, u32::MAX]), place([1, 0, 0xF403_02F1])],
         stages: vec![stage([0, 1, 258]), stage([1, 0, 258])],
         blocks: [0, 1].map(|u| block([u, 0, 10, 0, 16_512, 16_512])).to_vec(),
         offices: vec![1],
     };
     let table = [0, 0, 0, 0, 2, 1, 0, 0, 2, 1, 0, 0, 0, 0, 0, 0];
     checks(tally, "a table of two bytes", &sheet.to_bytes(), 17, (0, &table));
-    let mut list = [0; 32];
+    let mut list = [0; 40];
     list[8..10].copy_from_slice(&[2, 1]);
     list[16..18].copy_from_slice(&[2, 1]);
+    list[32..36].copy_from_slice(&[0xF1, 0x02, 0x03, 0xF4]);
     let counts = [1, 0, 0, 0, 0, 0, 0, 0, 0, 0, 0, 0, 0, 0, 0, 0];
-    asks(tally, "a list of two bytes", &sheet.to_bytes(), (0, 1), [33, 49, 17], (0, [&list, &[0; 48], &counts]));
+    asks(tally, "a list of two bytes", &sheet.to_bytes(), (0, 1), [41, 49, 17], (0, [&list, &[0; 48], &counts]));
 }

@@ -3,7 +3,7 @@
 use crate::inputs::draw::trees::tightest;
 use crate::inputs::full;
 use crate::inputs::limit_cases;
-use crate::inputs::marked::{block, stage};
+use crate::inputs::marked::{block, place, stage};
 use crate::inputs::rng::Rng;
 use crate::rules::check::check;
 use crate::rules::layout;
@@ -12,7 +12,7 @@ use crate::rules::map::Map;
 use crate::rules::program::{answer, input_of};
 use crate::rules::refusal::*;
 use crate::rules::roads::Roads;
-use crate::rules::sheet::{Block, Place, Sheet, Stage};
+use crate::rules::sheet::{Block, Sheet, Stage};
 use crate::selftest::probe::{check_gives, question_asked};
 use crate::tally::Tally;
 
@@ -20,6 +20,8 @@ const SIDE: u32 = 32;
 const PLACES: u32 = SIDE * SIDE;
 const TREE: u32 = 256;
 const LEVEL: u32 = 6;
+/// The gazetteer numbers of the grand sheet go down from here.
+const LAST_NUMBER: u32 = 4_000_000_000;
 
 pub fn run(tally: &mut Tally) {
     let sheet = grand_sheet();
@@ -30,9 +32,12 @@ pub fn run(tally: &mut Tally) {
     tally.met_check(number);
     tally.same("the grand sheet is true", number, ACCEPTED);
     let (outcome, list) = question_asked(tally, "the grand sheet", &bytes, 5, 6);
-    let offices: Vec<u64> = list.chunks(ANSWER_WORDS).map(|record| record[0]).collect();
-    tally.same("the grand sheet's question", (outcome.number, offices), (0, vec![5, 1_029, 2_053, 3_077, 6, 1_030]));
+    let offices: Vec<(u64, u64)> = list.chunks(ANSWER_WORDS).map(|record| (record[0], record[4])).collect();
+    let (at_5, at_6) = (3_999_999_995, 3_999_999_994);
+    let due = vec![(5, at_5), (1_029, at_5), (2_053, at_5), (3_077, at_5), (6, at_6), (1_030, at_6)];
+    tally.same("the grand sheet's question", (outcome.number, offices), (0, due));
     tally.same("the grand sheet in the program", answer(&input_of(5, 6, &bytes)).as_str(), "refused 20\n");
+    numbers_of_all_places(tally, &sheet);
     one_over(tally, sheet);
     full_sheet(tally);
     full_nets(tally);
@@ -42,7 +47,7 @@ pub fn run(tally: &mut Tally) {
 /// the next place begins a shortest road to all others.
 fn grand_sheet() -> Sheet {
     let mut sheet = Sheet {
-        places: (0..PLACES).map(|u| Place::at(u % SIDE * 32, u / SIDE * 32)).collect(),
+        places: (0..PLACES).map(|u| place([u % SIDE * 32, u / SIDE * 32, LAST_NUMBER - u])).collect(),
         stages: (0..PLACES).flat_map(stages_on).collect(),
         blocks: Vec::new(),
         offices: (0..4 * PLACES).map(|office| office % PLACES).collect(),
@@ -78,10 +83,25 @@ fn grand_blocks(sheet: &Sheet) -> Vec<Block> {
     blocks
 }
 
+/// The gazetteer number of one place given to another; none; and one that no other place has.
+fn numbers_of_all_places(tally: &mut Tally, sheet: &Sheet) {
+    let last = sheet.places.len() - 1;
+    for [one, other] in [[0, last], [last, 0], [0, 1], [last - 1, last], [511, 512], [1, 1_000]] {
+        let mut sheet = Sheet { places: sheet.places.clone(), ..Sheet::default() };
+        let mut refused = |number: u32| {
+            sheet.places[other].gazetteer = number;
+            layout::read(&sheet.to_bytes()).err()
+        };
+        tally.same("a number of 1,024 twice", refused(LAST_NUMBER - one as u32), Some(BAD_PLACES));
+        tally.same("no number", refused(0), Some(BAD_PLACES));
+        tally.same("another number", refused(u32::MAX), None);
+    }
+}
+
 /// One record more than a section may have, its bytes all there.
 fn one_over(tally: &mut Tally, sheet: Sheet) {
     let mut changed = [sheet.clone(), sheet.clone(), sheet.clone(), sheet];
-    changed[0].places.push(Place::at(1, 1));
+    changed[0].places.push(place([1, 1, 1]));
     changed[1].stages.push(stage([1_023, 1_022, 1]));
     changed[2].blocks.push(block([1_023, 1_048_575, 0, 0, 0, 0]));
     changed[3].offices.push(0);

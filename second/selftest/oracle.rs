@@ -64,7 +64,8 @@ pub fn listing(sheet: &Sheet, q: usize, k: usize) -> Result<(Vec<u64>, u64), Num
         let (_, leader) = waiting.pop_first().expect("k offices");
         let (low, high) = road_of(leader).after(stages[leader])?;
         if waiting.first().is_none_or(|&next| (high, leader) < next) {
-            list.extend([leader as u64, low as u64, high as u64, stages[leader] as u64]);
+            let stand = &sheet.places[sheet.offices[leader] as usize];
+            list.extend([leader as u64, low as u64, high as u64, stages[leader] as u64, stand.gazetteer.into()]);
         } else {
             stages[leader] += 1;
             total += 1;

@@ -1,5 +1,5 @@
 //! Self test, part 1: what the paper prints, P1 to P10 (P2 to P4 at the scale of item 11 of
-//! document 02) and its list "Run, not proved".
+//! document 02, P9 and P10 with the gazetteer numbers of item 2) and its list "Run, not proved".
 
 use crate::inputs::marked;
 use crate::rules::map::Map;
@@ -12,7 +12,7 @@ use crate::selftest::probe::{check_gives, question_asked};
 use crate::tally::Tally;
 
 pub fn run(tally: &mut Tally) {
-    tally.same("the marked sheet's bytes", marked::sheet().to_bytes().len(), 300);
+    tally.same("the marked sheet's bytes", marked::sheet().to_bytes().len(), 316);
     printed(tally);
     marked_measures(tally);
     marked_intervals(tally);
@@ -30,9 +30,10 @@ fn program_prints(tally: &mut Tally, name: &str, sheet: &Sheet, (q, k): (u32, u3
 
 fn printed(tally: &mut Tally) {
     let sheet = marked::sheet();
-    program_prints(tally, "k = 1", &sheet, (2, 1), "1 1\n2 5 5 1\n");
-    program_prints(tally, "the printed case", &sheet, (2, 2), "2 5\n2 5 5 1\n0 11 11 2\n");
-    program_prints(tally, "k = 3", &sheet, (2, 3), "3 5\n2 5 5 1\n0 11 11 2\n1 20 20 2\n");
+    program_prints(tally, "k = 1", &sheet, (2, 1), "1 1\n2 5 5 1 102\n");
+    program_prints(tally, "the printed case", &sheet, (2, 2), "2 5\n2 5 5 1 102\n0 11 11 2 101\n");
+    let all = "3 5\n2 5 5 1 102\n0 11 11 2 101\n1 20 20 2 104\n";
+    program_prints(tally, "k = 3", &sheet, (2, 3), all);
     program_prints(tally, "k = 0", &sheet, (2, 0), "refused 8\n");
     program_prints(tally, "k = 4", &sheet, (2, 4), "refused 8\n");
     program_prints(tally, "q = 4", &sheet, (4, 2), "refused 7\n");
@@ -41,11 +42,11 @@ fn printed(tally: &mut Tally) {
 
 fn marked_measures(tally: &mut Tally) {
     let sheet = marked::sheet();
-    let place = |u: usize| sheet.places[u];
-    tally.same("P1", [1, 2, 3].map(|u| code_of(place(u))), [37, 148, 34]);
-    tally.same("P2", crow(place(0), place(1)).0, 320);
-    tally.same("P3", crow(place(1), place(3)).0, 202);
-    tally.same("P4", crow(place(2), place(3)).0, 429);
+    let cell = |u: usize| sheet.places[u].cell;
+    tally.same("P1", [1, 2, 3].map(|u| code_of(cell(u))), [37, 148, 34]);
+    tally.same("P2", crow(cell(0), cell(1)).0, 320);
+    tally.same("P3", crow(cell(1), cell(3)).0, 202);
+    tally.same("P4", crow(cell(2), cell(3)).0, 429);
     let roads = Roads::of(&sheet);
     tally.same("P5", roads.between(2, 3), 20);
     tally.same("P6", roads.between(0, 2), 11);
@@ -66,9 +67,9 @@ fn marked_questions(tally: &mut Tally) {
     let bytes = marked::sheet().to_bytes();
     check_gives(tally, "the check", &marked::sheet(), 0);
     let (one, list) = question_asked(tally, "P9", &bytes, 2, 1);
-    tally.same("P9", (list[0], one.refinements), (2, 1));
+    tally.same("P9", (list, one.refinements), (vec![2, 5, 5, 1, 102], 1));
     let (two, list) = question_asked(tally, "P10", &bytes, 2, 2);
-    tally.same("P10", (list, two.refinements), (vec![2, 5, 5, 1, 0, 11, 11, 2], 5));
+    tally.same("P10", (list, two.refinements), (vec![2, 5, 5, 1, 102, 0, 11, 11, 2, 101], 5));
 }
 
 /// These are said of the layout alone: a question that is refused for its k has passed the layout.
@@ -79,8 +80,8 @@ fn layout_passes(tally: &mut Tally) {
         let (outcome, _) = question_asked(tally, name, &sheet.to_bytes(), 2, 0);
         tally.same(name, outcome.number, due);
     };
-    passes("x 1,023", 8, &|s| s.places[2].x = 1_023);
-    passes("x 1,024", 3, &|s| s.places[2].x = 1_024);
+    passes("x 1,023", 8, &|s| s.places[2].cell.x = 1_023);
+    passes("x 1,024", 3, &|s| s.places[2].cell.x = 1_024);
     passes("length 65,535", 8, &|s| s.stages[3].length = 65_535);
     passes("length 65,536", 4, &|s| s.stages[3].length = 65_536);
     passes("level 10", 8, &|s| s.blocks[6].level = 10);
@@ -101,7 +102,7 @@ fn untrue_sheets(tally: &mut Tally) {
 fn one_office(tally: &mut Tally) {
     let mut sheet = marked::sheet();
     sheet.offices = vec![3];
-    program_prints(tally, "one office", &sheet, (2, 1), "1 0\n0 7 20 0\n");
+    program_prints(tally, "one office", &sheet, (2, 1), "1 0\n0 7 20 0 104\n");
     sheet.offices = vec![2];
-    program_prints(tally, "one office, at q", &sheet, (2, 1), "1 0\n0 0 0 0\n");
+    program_prints(tally, "one office, at q", &sheet, (2, 1), "1 0\n0 0 0 0 103\n");
 }

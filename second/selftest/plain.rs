@@ -12,13 +12,13 @@ pub fn covers(block: &Block, place: &Place) -> bool {
         x += (block.code >> (2 * i) & 1) << i;
         y += (block.code >> (2 * i + 1) & 1) << i;
     }
-    (x..x + side).contains(&place.x) && (y..y + side).contains(&place.y)
+    (x..x + side).contains(&place.cell.x) && (y..y + side).contains(&place.cell.y)
 }
 
 /// From a guess, up and down to the largest whole number whose square is not too large.
 pub fn crow(a: &Place, b: &Place) -> i128 {
-    let dx = i128::from(a.x) - i128::from(b.x);
-    let dy = i128::from(a.y) - i128::from(b.y);
+    let dx = i128::from(a.cell.x) - i128::from(b.cell.x);
+    let dy = i128::from(a.cell.y) - i128::from(b.cell.y);
     let square = i128::from(CROW_SCALE) * (dx * dx + dy * dy);
     let mut root = (square as f64).sqrt() as i128;
     while root * root > square {

@@ -87,6 +87,7 @@ fn short_slices(tally: &mut Tally, name: &str, bytes: &[u8], (q, k): (u64, u64),
     for (answer_words, working_words, due) in [
         (a, w, whole),
         (a - 1, w, Outcome::refused(SHORT_SLICES)),
+        (4 * k as usize, w, Outcome::refused(SHORT_SLICES)),
         (a, w - 1, Outcome::refused(SHORT_SLICES)),
         (0, 0, Outcome::refused(SHORT_SLICES)),
     ] {

@@ -1,16 +1,17 @@
 //! Self test, part 5: a case for each settled point of docs/DECISIONS.md (1 to 19) that can be put as one. 6, 7, 9
 //! and 18 are among the edges; 12 is looked at in every refinement of a true sheet (demands); 15 is put by the longest
 //! walks; 19 is put with 5. 17 is of a test that request 8 took out. Of the readings of item 11, 27 is among the largest
-//! numbers, 28 with what the paper prints and among the edges, 29 among the edges.
+//! numbers, 28 with what the paper prints and among the edges, 29 among the edges. Those of item 2 are put last here, and
+//! among the edges; the fifth word is looked at in every list of a true sheet (demands).
 
 use crate::inputs::longest::maps::ring;
-use crate::inputs::marked::{self, block, stage};
+use crate::inputs::marked::{self, block, place, stage};
 use crate::rules::limits::ANSWER_WORDS;
 use crate::rules::map::Map;
 use crate::rules::measure::crow;
 use crate::rules::program::{answer, input_of};
 use crate::rules::refusal::Number;
-use crate::rules::sheet::{Place, Sheet};
+use crate::rules::sheet::{Cell, Sheet};
 use crate::selftest::oracle;
 use crate::selftest::probe::{check_gives, question_asked, question_gives};
 use crate::tally::Tally;
@@ -26,6 +27,7 @@ pub fn run(tally: &mut Tally) {
     place_without_blocks(tally);
     old_via_is_never_first(tally);
     largest_numbers(tally);
+    gazetteer_numbers(tally);
 }
 
 fn program(tally: &mut Tally, name: &str, input: &[u8], due: Number) {
@@ -45,7 +47,7 @@ fn idle_blocks_come_last(tally: &mut Tally) {
 /// Place 0 sees place 1 by an interval of 1 to 0 and place 2 not at all.
 fn blind_sheet(offices: &[u32]) -> Sheet {
     Sheet {
-        places: vec![Place::at(0, 0), Place::at(1, 0), Place::at(9, 9)],
+        places: vec![place([0, 0, 71]), place([1, 0, 72]), place([9, 9, 73])],
         stages: vec![stage([0, 1, 1]), stage([1, 2, 1]), stage([2, 0, 1])],
         blocks: vec![block([0, 0, 1, 0, 1, 1])],
         offices: offices.to_vec(),
@@ -62,7 +64,7 @@ fn first_intervals_by_office(tally: &mut Tally) {
 
 fn program_prints_bytes(tally: &mut Tally) {
     let text = answer(&input_of(2, 2, &marked::sheet().to_bytes()));
-    tally.same("reading 3", text.as_bytes(), &b"2 5\n2 5 5 1\n0 11 11 2\n"[..]);
+    tally.same("reading 3", text.as_bytes(), &b"2 5\n2 5 5 1 102\n0 11 11 2 101\n"[..]);
 }
 
 fn program_checks_before_asking(tally: &mut Tally) {
@@ -87,7 +89,7 @@ fn program_limits_twice(tally: &mut Tally) {
     program(tally, "reading 5, 65,535 bytes", &vec![0; 8 + 65_535], 1);
     program(tally, "reading 5, 65,540 bytes", &vec![0; 8 + 65_540], 20);
     let many = |places: u32, offices: usize, office: u32| Sheet {
-        places: (0..places).map(|x| Place::at(x, 0)).collect(),
+        places: (0..places).map(|x| place([x, 0, 5_000 + x])).collect(),
         offices: vec![office; offices],
         ..Sheet::default()
     };
@@ -119,10 +121,10 @@ fn no_offices_or_one_place(tally: &mut Tally) {
         question_gives(tally, "reading 10, M = 0", &sheet, (2, k), 8);
         question_gives(tally, "reading 10, q first", &sheet, (4, k), 7);
     }
-    let lonely = Sheet { places: vec![Place::at(1_023, 1_023)], offices: vec![0, 0, 0], ..Sheet::default() };
+    let lonely = Sheet { places: vec![place([1_023, 1_023, u32::MAX])], offices: vec![0, 0, 0], ..Sheet::default() };
     check_gives(tally, "reading 10, N = 1", &lonely, 0);
     let text = answer(&input_of(0, 3, &lonely.to_bytes()));
-    tally.same("reading 10, N = 1", text.as_str(), "3 0\n0 0 0 0\n1 0 0 0\n2 0 0 0\n");
+    tally.same("reading 10, N = 1", text.as_str(), "3 0\n0 0 0 0 4294967295\n1 0 0 0 4294967295\n2 0 0 0 4294967295\n");
 }
 
 fn place_without_blocks(tally: &mut Tally) {
@@ -150,15 +152,15 @@ fn old_via_is_never_first(tally: &mut Tally) {
 }
 
 fn largest_numbers(tally: &mut Tally) {
-    let (near, far) = (Place::at(0, 0), Place::at(1_023, 1_023));
+    let (near, far) = (Cell::at(0, 0), Cell::at(1_023, 1_023));
     tally.same("the longest crow distance", crow(near, far).0, 92_591);
-    tally.same("the shortest crow distance", crow(near, Place::at(1, 0)).0, 64);
+    tally.same("the shortest crow distance", crow(near, Cell::at(1, 0)).0, 64);
     ring_of_long_stages(tally);
 }
 
 /// Reading 16: a loop post of 1,024 places whose neighbours lie a whole loop apart.
 fn ring_of_long_stages(tally: &mut Tally) {
-    let mut sheet = ring((0..1_024).map(|x| Place::at(x, 0)).collect());
+    let mut sheet = ring((0..1_024).map(|x| Cell::at(x, 0)).collect());
     sheet.blocks.iter_mut().for_each(|b| b.high = 4_290_707_520);
     sheet.offices = vec![1_023, 0, 1];
     check_gives(tally, "reading 16, the longest road", &sheet, 0);
@@ -169,4 +171,20 @@ fn ring_of_long_stages(tally: &mut Tally) {
     tally.same("reading 16, the tightest end", reach, 67_042_305);
     sheet.blocks[1].high -= 1;
     check_gives(tally, "reading 16, one tighter", &sheet, 14);
+}
+
+/// Item 2: q is a place number, also where another place has it for its gazetteer number.
+fn gazetteer_numbers(tally: &mut Tally) {
+    let mut sheet = marked::sheet();
+    for q in 101..=104 {
+        question_gives(tally, "q that is a gazetteer number", &sheet, (q, 1), 7);
+    }
+    // The second office is left alone, and is listed with its first interval.
+    sheet.offices = vec![1, 1];
+    let text = answer(&input_of(2, 2, &sheet.to_bytes()));
+    tally.same("two offices at one place", text.as_str(), "2 1\n0 5 5 1 102\n1 5 15 0 102\n");
+    sheet = marked::sheet();
+    sheet.places.iter_mut().zip([2, 3, 1, 4]).for_each(|(place, number)| place.gazetteer = number);
+    let text = answer(&input_of(2, 3, &sheet.to_bytes()));
+    tally.same("numbers like those of places", text.as_str(), "3 5\n2 5 5 1 3\n0 11 11 2 2\n1 20 20 2 4\n");
 }

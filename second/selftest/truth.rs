@@ -14,10 +14,16 @@ pub fn layout(sheet: &Sheet) -> [bool; 4] {
 }
 
 fn places_hold(sheet: &Sheet) -> bool {
-    let mut cells: Vec<(u32, u32)> = sheet.places.iter().map(|p| (p.x, p.y)).collect();
+    let mut cells: Vec<(u32, u32)> = sheet.places.iter().map(|p| (p.cell.x, p.cell.y)).collect();
     cells.sort();
     cells.dedup();
-    cells.len() == sheet.places.len() && cells.iter().all(|&(x, y)| x <= 1_023 && y <= 1_023)
+    // 0 put before them: then each in order is larger than the one before.
+    let mut numbers = vec![0];
+    numbers.extend(sheet.places.iter().map(|p| p.gazetteer));
+    numbers.sort();
+    cells.len() == sheet.places.len()
+        && cells.iter().all(|&(x, y)| x <= 1_023 && y <= 1_023)
+        && numbers.windows(2).all(|n| n[0] < n[1])
 }
 
 fn stages_hold(sheet: &Sheet, count: u32) -> bool {

@@ -34,7 +34,8 @@ static void sizes(void)
 {
     unsigned int places = 4;
     expect(ATLAS_DISTANCES_BYTES(places++) == 64 && places == 5, "4 places lend 64 bytes, and are counted once");
-    expect(ATLAS_ANSWER_BYTES(1 + 1) == 64, "2 offices lend 64 bytes");
+    expect(ATLAS_ANSWER_BYTES(1 + 1) == 80, "2 offices lend 80 bytes");
+    expect(ATLAS_LINE_WORDS * 8 * 2 == 80, "a line has all the words that are lent for it");
     expect(ATLAS_WORKING_BYTES(1 + 2) == 144, "3 offices lend 144 bytes");
     expect(sizeof(ATLAS_ANSWER_BYTES(1)) == sizeof(size_t), "bytes are a size");
     expect(ATLAS_DISTANCES_BYTES(ATLAS_PLACES_MOST) == ATLAS_DISTANCES_MOST, "distances of the largest sheet");
@@ -43,7 +44,7 @@ static void sizes(void)
     expect(4 * (4 + ATLAS_PLACE_WORDS * ATLAS_PLACES_MOST + ATLAS_STAGE_WORDS * ATLAS_STAGES_MOST + ATLAS_BLOCK_WORDS * ATLAS_BLOCKS_MOST +
                 ATLAS_OFFICE_WORDS * ATLAS_OFFICES_MOST) == ATLAS_SHEET_MOST,
            "the largest sheet: four counts and all records");
-    expect(ATLAS_SHEET_MOST == 6414352, "the largest sheet in bytes");
+    expect(ATLAS_SHEET_MOST == 6418448, "the largest sheet in bytes");
 }
 
 static void words(void)
@@ -98,6 +99,50 @@ static double in_line(size_t rank, size_t which)
     return atlas_word64(answer, rank * ATLAS_LINE_WORDS + which);
 }
 
+static void places(const unsigned char *sheet)
+{
+    size_t place;
+    for (place = 0; place < 4; place++)
+        expect(atlas_word32(sheet, 1 + ATLAS_PLACE_WORDS * place + ATLAS_PLACE_GAZETTEER) == 101 + place, "places 0 to 3: 101 to 104");
+}
+
+/* Lends an answer of so many bytes for two offices, and all else that they need. */
+static unsigned int ask_in(const unsigned char *sheet, size_t bytes, size_t answer_bytes)
+{
+    fill(answer, sizeof answer);
+    return atlas_question(sheet, bytes, 2, 2, answer, answer_bytes, working, sizeof working, counts, sizeof counts);
+}
+
+static void short_answer(const unsigned char *sheet, size_t bytes)
+{
+    expect(ask_in(sheet, bytes, 2 * 32) == ATLAS_SHORT_SLICES, "2 offices with 32 bytes each, as before");
+    expect(ask_in(sheet, bytes, 2 * 40 - 1) == ATLAS_SHORT_SLICES, "2 offices with a byte too few");
+    expect(is_filled(answer, 0, sizeof answer, 170), "9: the answer is untouched");
+    expect(ask_in(sheet, bytes, 2 * 40) == ATLAS_LISTED, "2 offices with 40 bytes each");
+}
+
+/* The sheet with a gazetteer number changed. */
+static unsigned int check_with(const unsigned char *sheet, size_t bytes, size_t place, unsigned int gazetteer)
+{
+    static unsigned char changed[316], distances[64];
+    unsigned char *word = changed + 4 * (1 + ATLAS_PLACE_WORDS * place + ATLAS_PLACE_GAZETTEER);
+    size_t i;
+    for (i = 0; i < sizeof changed && i < bytes; i++)
+        changed[i] = sheet[i];
+    for (i = 0; i < 4; i++)
+        word[i] = (unsigned char)(gazetteer >> 8 * i & 255);
+    return atlas_check(changed, sizeof changed, distances, sizeof distances);
+}
+
+static void gazetteer(const unsigned char *sheet, size_t bytes)
+{
+    expect(check_with(sheet, bytes, 0, 0) == ATLAS_BAD_PLACES, "0 at the first place");
+    expect(check_with(sheet, bytes, 3, 0) == ATLAS_BAD_PLACES, "0 at the last place");
+    expect(check_with(sheet, bytes, 3, 101) == ATLAS_BAD_PLACES, "the first and the last place with one number");
+    expect(check_with(sheet, bytes, 3, 1) == ATLAS_ACCEPTED, "the least number");
+    expect(check_with(sheet, bytes, 0, 4294967295U) == ATLAS_ACCEPTED, "the largest number");
+}
+
 static void question(const unsigned char *sheet, size_t bytes)
 {
     expect(atlas_question(sheet, bytes, 2, 2, NULL, 0, NULL, 0, NULL, 0) == ATLAS_SHORT_SLICES, "nothing lent");
@@ -107,10 +152,10 @@ static void question(const unsigned char *sheet, size_t bytes)
     expect(ask(sheet, bytes, 2) == ATLAS_LISTED, "P10 is listed");
     expect(atlas_word64(counts, ATLAS_COUNT_LISTED) == 2 && atlas_word64(counts, ATLAS_COUNT_REFINEMENTS) == 5, "P10: the counts");
     expect(in_line(0, ATLAS_LINE_OFFICE) == 2 && in_line(0, ATLAS_LINE_LOW_END) == 5 && in_line(0, ATLAS_LINE_HIGH_END) == 5 &&
-               in_line(0, ATLAS_LINE_STAGES_WALKED) == 1,
+               in_line(0, ATLAS_LINE_STAGES_WALKED) == 1 && in_line(0, ATLAS_LINE_GAZETTEER) == 102,
            "P10: office 2");
     expect(in_line(1, ATLAS_LINE_OFFICE) == 0 && in_line(1, ATLAS_LINE_LOW_END) == 11 && in_line(1, ATLAS_LINE_HIGH_END) == 11 &&
-               in_line(1, ATLAS_LINE_STAGES_WALKED) == 2,
+               in_line(1, ATLAS_LINE_STAGES_WALKED) == 2 && in_line(1, ATLAS_LINE_GAZETTEER) == 101,
            "P10: office 0");
     expect(is_filled(working, 0, ATLAS_WORKING_BYTES(3), 0), "P10: the working bytes are 0");
     expect(is_filled(answer, ATLAS_ANSWER_BYTES(2), sizeof answer, 170) && is_filled(counts, ATLAS_COUNTS_BYTES, sizeof counts, 170) &&
@@ -120,13 +165,16 @@ static void question(const unsigned char *sheet, size_t bytes)
 
 int main(void)
 {
-    unsigned char sheet[301];
+    unsigned char sheet[317];
     size_t bytes = fread(sheet, 1, sizeof sheet, stdin);
-    expect(bytes == 300, "the marked sheet is 300 bytes");
+    expect(bytes == 316, "the marked sheet is 316 bytes");
     numbers();
     sizes();
     words();
     check(sheet, bytes);
+    places(sheet);
+    gazetteer(sheet, bytes);
     question(sheet, bytes);
+    short_answer(sheet, bytes);
     return failed;
 }

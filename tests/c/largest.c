@@ -1,5 +1,6 @@
 /* Writes the largest sheet that there is, and a true one: as many places, stages, blocks and offices as a sheet may have. A stage of 1
-   furlong leads from each place to the next, in a ring; seven more of 65,535 furlongs leave it, by which no shortest road goes. */
+   furlong leads from each place to the next, in a ring; seven more of 65,535 furlongs leave it, by which no shortest road goes. The
+   gazetteer numbers go down from the largest word: place p has 4,294,967,295 - p. */
 
 #include <atlas.h>
 #include <limits.h>
@@ -59,6 +60,7 @@ int main(void)
     for (i = 0; i < ATLAS_PLACES_MOST; i++) {
         put(i % SIDE);
         put(i / SIDE);
+        put(UINT_MAX - i);
     }
     put(ATLAS_STAGES_MOST);
     for (i = 0; i < ATLAS_PLACES_MOST; i++)

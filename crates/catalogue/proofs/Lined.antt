@@ -18,7 +18,7 @@ use Rattle.nearest.specs.declared.walk.Walked.{Walked}
 use Rattle.nearest.specs.declared.walk.Walked.the-variants as walked
 use Rattle.catalogue.specs.Handed.{CameOut}
 
--- the first 4k words of the walk's own slice are in the answer
+-- the first 5k words of the walk's own slice are in the answer
 module _ (k : ℕ) (r : Served State) (own own′ a a′ : List ℕ) (long : lineWords * k ≤ length own′) (room : longBytes * (lineWords * k) ≤ length a)
     (whole : (st : State) → r ≡ served st → length (st .lines) ≡ k) (e : a′ ≡ written longBytes (take (lineWords * k) own′) a) where
   size : length (take (lineWords * k) own′) ≡ lineWords * k

@@ -60,7 +60,7 @@ fn invalid(found: Counts, q: u32, k: u32, answer: &[u8], working: &[u8], counts:
     0
 }
 
-// The listing of k offices from q, over a map that is read off the bytes. After a refusal the answer's first 32k bytes may be anything.
+// The listing of k offices from q, over a map that is read off the bytes. After a refusal the answer's first 40k bytes may be anything.
 fn list_lines(
     ground: &[u8],
     found: Counts,

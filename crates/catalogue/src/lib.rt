@@ -35,8 +35,8 @@ pub extern "C" fn atlas_check(sheet: &[u8], distances: &mut [u8]) -> u32
     }
 }
 
-// 0 for a list of the k offices nearest by road to the place q, and else the first of 1 to 9 and 16 to 18 that is due. The list is 4k words
-// of 64 bits: number, low end, high end and stages walked for each. The counts are two more: how many are listed, and the refinements.
+// 0 for a list of the k offices nearest by road to the place q, and else the first of 1 to 9 and 16 to 18 that is due. The list is 5k words
+// of 64 bits: number, low end, high end, stages walked and the gazetteer number of its place for each. The counts are two more: how many are listed, and the refinements.
 #[no_mangle]
 pub extern "C" fn atlas_question(
     sheet: &[u8],

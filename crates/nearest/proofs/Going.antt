@@ -110,7 +110,7 @@ module _ (m : Map) (x : Quest) (k : ℕ) where
       unfoldable pub going-listed : (i : ℕ) (t : Trail) (w′ : List ℕ) → ListedNow m x st w′ i t → Going goal w′ (r + 1) total
       unfolding going-on
       going-listed i t w′ L =
-          going-on (listed x st i) (L .stepped) w′ (r + 1) total (L .shown) (omega (arith, snoc-length (st .lines) (lineOf x i (at (st .slots) i .trail)), G .counted)) (G .made) (omega arith)
+          going-on (listed m x st i) (L .stepped) w′ (r + 1) total (L .shown) (omega (arith, snoc-length (st .lines) (lineOf m x i (at (st .slots) i .trail)), G .counted)) (G .made) (omega arith)
 
       unfoldable pub going-walked : (w′ : List ℕ) → WalkedNow m x st w′ → Going goal w′ r (total + 1)
       unfolding going-on

@@ -61,11 +61,11 @@ module _ {m : Map} {x : Quest} {k : ℕ} {goal : Served State} {w a₀ a : List 
         omega (arith, progress-most)
 
   module _ (h : r < k) (most : k ≤ x .count) where
-    pub progress-listed : (i : ℕ) (t : Trail) (w′ a′ : List ℕ) → ListedNow m x st w′ i t → Wrote r (lineOf x i t) a a′ → Progress m x k goal w′ a₀ a′ (r + 1) total
+    pub progress-listed : (i : ℕ) (t : Trail) (w′ a′ : List ℕ) → ListedNow m x st w′ i t → Wrote r (lineOf m x i t) a a′ → Progress m x k goal w′ a₀ a′ (r + 1) total
     unfolding going-listed
     progress-listed i t w′ a′ L W = record {
       going = going-listed m x k G h most i t w′ L;
-      text = text-more (P .text) (lineOf x i (at (st .slots) i .trail)) (subst (λ (b : ℕ). Wrote b (lineOf x i (at (st .slots) i .trail)) a a′) (sym (G .counted)) (rw (L .trail) W));
+      text = text-more (P .text) (lineOf m x i (at (st .slots) i .trail)) (subst (λ (b : ℕ). Wrote b (lineOf m x i (at (st .slots) i .trail)) a a′) (sym (G .counted)) (rw (L .trail) W));
     }
 
     pub progress-walked : (w′ : List ℕ) → WalkedNow m x st w′ → Progress m x k goal w′ a₀ a r (total + 1)

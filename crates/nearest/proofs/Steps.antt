@@ -20,13 +20,13 @@ module _ (m : Map) (x : Quest) (st : State) (i : ℕ) (L : leader (st .slots) (x
   refined-once = refine m (x .to i) (at (st .slots) i .trail)
 
   abbrev moved : Bool → Served Trail → Served State
-  moved b r = elim b [ true ↦ served (listed x st i) | false ↦ andThen r (λ t. served (walkedOn st i t)) ]
+  moved b r = elim b [ true ↦ served (listed m x st i) | false ↦ andThen r (λ t. served (walkedOn st i t)) ]
 
   step-led : step m x st ≡ moved alone refined-once
   unfolding step
   step-led = ap (move m x st) L
 
-  pub step-listed : alone ≡ true → step m x st ≡ served (listed x st i)
+  pub step-listed : alone ≡ true → step m x st ≡ served (listed m x st i)
   step-listed e = step-led ∙ ap (λ (b : Bool). moved b refined-once) e
 
   pub step-walked : alone ≡ false → (t : Trail) → refined-once ≡ served t → step m x st ≡ served (walkedOn st i t)

@@ -94,7 +94,7 @@ pub record OneOut (n i : ℕ) (w : List ℕ) (t : Trail) : Type 0 where
 
 -- office i is listed with its trail
 pub record ListedNow (m : Map) (x : Quest) (st : State) (w : List ℕ) (i : ℕ) (t : Trail) : Type 0 where
-  pub stepped : step m x st ≡ served (listed x st i)
+  pub stepped : step m x st ≡ served (listed m x st i)
   pub trail : at (st .slots) i .trail ≡ t
   pub here : i < x .count
   pub shown : Shown (m .places) (x .count) w (retired (st .slots) i)

@@ -153,8 +153,8 @@ fn ask(
     }
 }
 
-// The k offices nearest by road to the place q: number, low end, high end and stages walked for each, in the first 4k words of the answer
-// slice. The first 6M words of the working slice are used, and 0 at the end. Any sheet is taken, accepted or not.
+// The k offices nearest by road to the place q: number, low end, high end, stages walked and its place's gazetteer number for each, in the first 5k
+// words of the answer slice. The first 6M words of the working slice are used, and 0 at the end. Any sheet is taken, accepted or not.
 pub fn question(sheet: &[u8], q: u32, k: u32, answer: &mut [u64], working: &mut [u64]) -> Reply
     ensures rules { λ r. ⌜ replied r (now (answer .exit)) (now (working .exit)) ≡ reply (now (sheet .entry)) q k (now (answer .entry)) (now (working .entry)) ⌝ }
     ensures nearest { λ r. ⌜ (Accepted (now (sheet .entry)) → Valid (now (sheet .entry)) q k (now (answer .entry)) (now (working .entry)) → ListsNearest (now (sheet .entry)) q k (now (answer .entry)) (replied r (now (answer .exit)) (now (working .exit)))) ⌝ }

@@ -11,6 +11,7 @@ use paper::Trail;
 use quadtree::walk::Step;
 use quadtree::walk::refine;
 use quadtree::walk::start;
+use sheet::places::gazetteer_of;
 use sheet::word;
 ghost use mathlib.Core.Path.{_≡_};
 ghost use mathlib.Core.List.{List};
@@ -19,11 +20,13 @@ ghost use lib.ListN.{length};
 ghost use Rattle.paper.specs.Sizes.{lineWords, slotWords};
 ghost use Rattle.paper.specs.Map.{Map};
 ghost use Rattle.paper.specs.Sheet.{mapOf, officesIn};
-ghost use Rattle.paper.specs.Quest.{outward};
-ghost use Rattle.paper.specs.Listing.{Slot, State, begin, run, enough, listing};
+ghost use Rattle.paper.specs.Ground.{SameGround};
+ghost use Rattle.paper.specs.Quest.{Quest, outward};
+ghost use Rattle.paper.specs.Listing.{Slot, State, lineOf, begin, run, enough, listing};
 ghost use Rattle.sheet.specs.Ground.{Ground, Charted, Chart, Roll};
 ghost use Rattle.nearest.specs.Working.{Shown, Beyond};
-ghost use Rattle.nearest.specs.Going.{Fresh, Waiting, Begun, OneStarted, AllStarted, Stepped, Came};
+ghost use Rattle.quadtree.specs.Walks.{trailOf};
+ghost use Rattle.nearest.specs.Going.{Wrote, Fresh, Waiting, Begun, OneStarted, AllStarted, Stepped, Came};
 
 // What one step does: the leader is listed, or refined once, or its refinement is refused.
 pub enum Moved {
@@ -134,6 +137,26 @@ fn advance(
     }
 }
 
+// Lists office i with the trail t, as line r of the answer.
+fn list_office(
+    ground: &[u8],
+    counts: Counts,
+    list: &[u8],
+    i: usize,
+    t: Trail,
+    r: usize,
+    answer: &mut [u64],
+)
+    requires { ⌜ Ground (now ground) counts ⌝ }
+    requires { ⌜ Roll (now list) (counts .offices) (counts .places) ⌝ }
+    requires { ⌜ (i < counts .offices) × (lineWords * r + lineWords ≤ length (now answer)) ⌝ }
+    ensures { λ _. ⌜ ((m : Map) (x : Quest) → SameGround m (mapOf (now (ground .entry))) → x .stand i ≡ officesIn (now (list .entry)) .stand i → Wrote r (lineOf m x i (trailOf t)) (now (answer .entry)) (now (answer .exit))) ⌝ }
+{
+    let place = stand(list, i);
+    let gazetteer = gazetteer_of(ground, place);
+    write_line(answer, r, i, t, gazetteer);
+}
+
 // Steps until k are listed.
 fn list_nearest(
     ground: &[u8],
@@ -160,7 +183,7 @@ fn list_nearest(
         let moved = advance(ground, counts, first, heads, lengths, list, working);
         match moved {
             Moved::Listed(number, trail) => {
-                write_line(answer, listed, number, trail);
+                list_office(ground, counts, list, number, trail, listed, answer);
                 listed += 1;
             }
             Moved::Refined => {

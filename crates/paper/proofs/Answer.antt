@@ -16,7 +16,7 @@ use Rattle.paper.specs.Truth.{Truth, Reach}
 use Rattle.paper.proofs.LaidOut.{LaidOut}
 use Rattle.paper.specs.Named.{Named}
 use Rattle.paper.specs.Trail.{Trail, start}
-use Rattle.paper.specs.Listing.{Slot, State, noSlot, at, begin, listing}
+use Rattle.paper.specs.Listing.{Line, Slot, State, noSlot, at, begin, listing}
 use Rattle.paper.specs.Answer.{Asked, Seen, Nearest, Thrifty, numberOn, trailOf}
 use Rattle.paper.proofs.Holds.{Holds, given, taken}
 use Rattle.paper.proofs.Test.{true-false}
@@ -75,6 +75,7 @@ module _ {m : Map} {x : Quest} {k : ℕ} (s : Seen m x) (st : State) (E : Ended 
     office = λ a p. inv .lines a (there p) .office;
     low = λ a p. inv .lines a (there p) .low;
     high = λ a p. inv .lines a (there p) .high;
+    gazetteer = λ a p. ap (λ (l : Line). l .gazetteer) (inv .shown a (there p));
     order = λ a b p h. inv .sorted b (there h) a p;
     rest = λ j h out a p. inv .after a (there p) j h (waits j h out (at (st .slots) j .waits) refl);
     shown = λ a p. inv .shown a (there p);

@@ -92,17 +92,17 @@ module _ {m : Map} {x : Quest} {k : ℕ} (L : LaidOut m) (A : Asked m x k) where
     trails : (i : ℕ) → i < x .count → Met m (x .from i) (x .to i) (at (st .slots) i .trail)
     lines : (a : ℕ) → a < length (st .lines) → LineWithin m x (lineAt (st .lines) a)
 
-  line-within : (i : ℕ) → i < x .count → (t : Trail) → Met m (x .from i) (x .to i) t → LineWithin m x (lineOf x i t)
+  line-within : (i : ℕ) → i < x .count → (t : Trail) → Met m (x .from i) (x .to i) t → LineWithin m x (lineOf m x i t)
   line-within i p t M =
       let S : Sane (m .places) t = met-sane L (x .from i) (x .to i) (A .leaves i p) (A .ends i p) t M in
-      record { office = p; ordered = S .ordered; high = S .high; stages = S .stages }
+      record { office = p; ordered = S .ordered; high = S .high; stages = S .stages; gazetteer = L .gazetteer (x .stand i) (A .stands i p) }
 
   keeps : (st : State) → Fair (m .places) (x .count) st → Underway st → length (st .lines) < k → On Any Underway (step m x st)
   keeps st F G lt =
       step-on m x Any Underway st F (omega (arith, A .enough))
       (λ i D c. record {
         trails = λ j p. rw (retired-trail (st .slots) i (inside m x st F i D) j) (G .trails j p);
-        lines = snoc-all (λ a l. LineWithin m x l) (st .lines) (lineOf x i (at (st .slots) i .trail)) (G .lines) (line-within i (D .here) (at (st .slots) i .trail) (G .trails i (D .here)));
+        lines = snoc-all (λ a l. LineWithin m x l) (st .lines) (lineOf m x i (at (st .slots) i .trail)) (G .lines) (line-within i (D .here) (at (st .slots) i .trail) (G .trails i (D .here)));
       })
       (λ i D c. let t : Trail = at (st .slots) i .trail in
       on-map Any (λ t′. refine m (x .to i) t ≡ served t′) (λ t′. Underway (walkedOn st i t′)) (refine m (x .to i) t) (on-itself (refine m (x .to i) t)) (λ t′ e. record {

@@ -1,11 +1,17 @@
 -- What clearing the first words of a slice leaves.
-use Prim.Native.Nat.{ℕ, _+_, _-_, _≤_}
+use Prim.Native.Nat.{ℕ, zero, suc, _+_, _-_, _≤_}
 use native.Mathlib.Omega.{arith}
-use mathlib.Core.Path.{_≡_, sym, ap, _∙_}
+use mathlib.Core.Path.{_≡_, refl, sym, ap, _∙_}
 use mathlib.Core.List.{List, _++_}
 use lib.ListN.{length, getD, drop, replicate, length-append, length-replicate, length-drop}
 use lib.Seq.{ext-getD, getD-drop, drop-at}
 use Rattle.paper.specs.Slice.{Untouched, cleared}
+
+-- every word of a slice of zeros is 0, past its end too
+pub zeros : (n i : ℕ) → _≡_ {A = ℕ} (getD (replicate n 0) i 0) 0
+zeros zero i = refl
+zeros (suc n) zero = refl
+zeros (suc n) (suc i) = zeros n i
 
 -- as many words as were lent
 pub cleared-size : (n : ℕ) (l : List ℕ) → n ≤ length l → length (cleared n l) ≡ length l

@@ -58,14 +58,14 @@ module _ (m : Map) (x : Quest) where
     pub inside : i < length (st .slots)
     inside = omega (arith, F .size, L .here)
 
-    listed-fair : Fair (m .places) (x .count) (listed x st i)
+    listed-fair : Fair (m .places) (x .count) (listed m x st i)
     listed-fair = record {
       size = length-set ss i y ∙ F .size;
       counted = F .counted ∙ sum-same (λ j. at ss j .trail .stages) (λ j. at ss′ j .trail .stages) (x .count) (λ j p. sym (stages j));
       waiting = omega (
         arith,
         F .waiting,
-        snoc-length (st .lines) (lineOf x i (at ss i .trail)),
+        snoc-length (st .lines) (lineOf m x i (at ss i .trail)),
         sum-but (λ j. one (at ss′ j .waits)) (λ j. one (at ss j .waits)) (x .count) i (L .here) (λ j p. others j),
         ap one (L .waits),
         ap (λ (s : Slot). one (s .waits)) (getD-set-same ss i y noSlot inside),
@@ -118,7 +118,7 @@ module _ (m : Map) (x : Quest) where
 
   -- a step, by what it does with the leader
   pub step-on : (Q : ℕ → Type 0) (P : State → Type 0) (st : State) → Fair (m .places) (x .count) st → length (st .lines) < x .count
-      → ((i : ℕ) → Leads (st .slots) (x .count) i → clear (st .slots) i (leader (retired (st .slots) i) (x .count)) ≡ true → P (listed x st i))
+      → ((i : ℕ) → Leads (st .slots) (x .count) i → clear (st .slots) i (leader (retired (st .slots) i) (x .count)) ≡ true → P (listed m x st i))
       → ((i : ℕ) → Leads (st .slots) (x .count) i → clear (st .slots) i (leader (retired (st .slots) i) (x .count)) ≡ false
       → On Q (λ t. P (walkedOn st i t)) (refine m (x .to i) (at (st .slots) i .trail)))
       → On Q P (step m x st)
@@ -134,7 +134,7 @@ module _ (m : Map) (x : Quest) where
   pub fair-step : (st : State) → Fair (m .places) (x .count) st → length (st .lines) < x .count → On Walk (λ st′. Fair (m .places) (x .count) st′ × Next st st′) (step m x st)
   fair-step st F p =
       step-on Walk (λ st′. Fair (m .places) (x .count) st′ × Next st st′) st F p
-      (λ i L c. (listed-fair st F i L, omega (arith, snoc-length (st .lines) (lineOf x i (at (st .slots) i .trail)))))
+      (λ i L c. (listed-fair st F i L, omega (arith, snoc-length (st .lines) (lineOf m x i (at (st .slots) i .trail)))))
       (λ i L c. let t : Trail = at (st .slots) i .trail in
       on-map Walk (Finer m t) (λ t′. Fair (m .places) (x .count) (walkedOn st i t′) × Next st (walkedOn st i t′)) (refine m (x .to i) t) (walk-refine m (x .to i) t)
       (λ t′ N. (refined-fair st F i L t′ N, omega arith)))

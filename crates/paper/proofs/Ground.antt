@@ -22,6 +22,7 @@ same-refl m = record {
   places = refl;
   x = λ v p. refl;
   y = λ v p. refl;
+  gazetteer = λ v p. refl;
   blocks = refl;
   owner = λ b p. refl;
   code = λ b p. refl;

@@ -2,22 +2,22 @@
 use Prim.Native.Nat.{ℕ, suc, _+_, _*_, _%_, _^_, _≤_, _<_}
 use native.Mathlib.Omega.{arith}
 use native.Mathlib.Decide.{decLt}
-use mathlib.Core.Path.{_≡_}
+use mathlib.Core.Path.{_≡_, sym}
 use mathlib.Core.Bool.{Bool, true, not}
 use mathlib.Core.List.{List}
 use lib.Dec.{leb, ltb, eqb}
 use lib.ListN.{length, getD, List·getD-eq-default}
 use borrow.Author.Tests.{leb-true, ltb-true, eqb-true, eqb-false, eq-eqb, not-true}
 use Rattle.paper.specs.Sizes.{placeWords, stageWords, blockWords, officeWords, mostPlaces, mostStages, mostBlocks, mostOffices, gridSide, topLevel, mostFurlongs, mostLeaving}
-use Rattle.paper.specs.Test.{both, every, due, orElse}
+use Rattle.paper.specs.Test.{both, every, apart, due, orElse}
 use Rattle.paper.specs.Order.{Before}
 use Rattle.paper.specs.Map.{Map, Offices}
 use Rattle.paper.specs.Sheet.{word, stagesAt, blocksAt, officesAt, mapOf, officesOf}
 use Rattle.paper.specs.Stage.{leaving}
 use Rattle.paper.proofs.LaidOut.{Grounded, LaidOut}
 use Rattle.paper.specs.Ground.{Lawful}
-use Rattle.paper.specs.Layout.{Bytes, wordsIn, section, endsAt, sections, sharing, placeHolds, placesHold, stageHolds, stageAscends, stagesHold, blockLies, blockHolds, blockAscends, blocksLie, blocksHold, officesHold, layout}
-use Rattle.paper.proofs.Test.{true-false, both-true, both-left, both-right, either-by, every-true, every-of, due-true, or-left, or-right}
+use Rattle.paper.specs.Layout.{Bytes, wordsIn, section, endsAt, sections, sharing, sharingNumber, placeHolds, placesHold, stageHolds, stageAscends, stagesHold, blockLies, blockHolds, blockAscends, blocksLie, blocksHold, officesHold, layout}
+use Rattle.paper.proofs.Test.{true-false, both-true, both-left, both-right, either-by, every-true, every-of, apart-true, due-true, or-left, or-right}
 use Rattle.paper.proofs.Leader.{before-true}
 use Rattle.paper.proofs.Stages.{chain, stage-under, stage-leaves}
 
@@ -134,25 +134,34 @@ passed s h =
       offices = due-true o 6 (omega arith) (or-right (due b 5) _ h₃);
     }
 
--- place i lies on the grid, and no earlier place shares its cell
+-- place i lies on the grid and has a gazetteer number, and no earlier place shares its cell or its number
 pub record PlaceOk (m : Map) (i : ℕ) : Type 0 where
   pub x : m .x i < gridSide
   pub y : m .y i < gridSide
+  pub numbered : 1 ≤ m .gazetteer i
   pub apart : (j : ℕ) → j < i → m .x j ≡ m .x i → m .y j ≡ m .y i → ⊥
+  pub unlike : (j : ℕ) → j < i → m .gazetteer j ≡ m .gazetteer i → ⊥
 
 pub place-ok : (m : Map) → placesHold m ≡ true → (i : ℕ) → i < m .places → PlaceOk m i
 unfolding placesHold placeHolds
 place-ok m h i p =
     let x : Bool = ltb (m .x i) gridSide in
     let y : Bool = ltb (m .y i) gridSide in
-    let e : Bool = every i (λ j. not (sharing m j i)) in
-    let hi : both (both x y) e ≡ true = every-true (m .places) (placeHolds m) h i p in
-    let xy : both x y ≡ true = both-left (both x y) e hi in
+    let some : Bool = not (eqb (m .gazetteer i) 0) in
+    let each : Bool = every (m .places) (placeHolds m) in
+    let cells : Bool = apart (m .places) (sharing m) in
+    let numbers : Bool = apart (m .places) (sharingNumber m) in
+    let hi : both (both x y) some ≡ true = every-true (m .places) (placeHolds m) (both-left each (both cells numbers) h) i p in
+    let xy : both x y ≡ true = both-left (both x y) some hi in
+    let unshared : both cells numbers ≡ true = both-right each (both cells numbers) h in
+    let other : m .gazetteer i ≡ 0 → ⊥ = eqb-false _ _ (not-true (eqb (m .gazetteer i) 0) (both-right (both x y) some hi)) in
     record {
       x = ltb-true _ _ (both-left x y xy);
       y = ltb-true _ _ (both-right x y xy);
+      numbered = elim (decLt 0 (m .gazetteer i)) [ yes l ↦ l | no l ↦ absurd (other (omega arith)) ];
       apart = λ j q a b. true-false (both-true (eqb (m .x j) (m .x i)) (eqb (m .y j) (m .y i)) (eq-eqb _ _ a) (eq-eqb _ _ b))
-          (not-true (sharing m j i) (every-true i (λ j. not (sharing m j i)) (both-right (both x y) e hi) j q));
+          (apart-true (m .places) (sharing m) (both-left cells numbers unshared) i j p q);
+      unlike = λ j q e. true-false (eq-eqb (m .gazetteer j) (m .gazetteer i) e) (apart-true (m .places) (sharingNumber m) (both-right cells numbers unshared) i j p q);
     }
 
 pub record StageOk (m : Map) (i : ℕ) : Type 0 where
@@ -287,6 +296,8 @@ grounded m some places blocks ratios P h =
       xs = λ v p. place-ok m P v p .x;
       ys = λ v p. place-ok m P v p .y;
       apart = λ u v l p. place-ok m P v p .apart u l;
+      numbered = λ v p. place-ok m P v p .numbered;
+      unlike = λ u v l p. place-ok m P v p .unlike u l;
       owners = λ b p. B .each b p .owner;
       levels = λ b p. B .each b p .level;
       codes = λ b p. B .each b p .code;
@@ -297,6 +308,13 @@ grounded m some places blocks ratios P h =
       parted = λ b c l p. B .later b c l p .parted;
     }
 
+-- a gazetteer number is that of one place
+pub gazetteer-one : {m : Map} → Grounded m → (u v : ℕ) → u < m .places → v < m .places → m .gazetteer u ≡ m .gazetteer v → u ≡ v
+gazetteer-one G u v hu hv e = elim (decLt u v) [
+  | yes l ↦ absurd (G .unlike u v l hv e)
+  | no l ↦ elim (decLt v u) [ yes g ↦ absurd (G .unlike v u g hu (sym e)) | no g ↦ omega arith ]
+]
+
 -- a map that keeps the rules is laid out
 pub lawful-laid : {m : Map} → Lawful m → LaidOut m
 lawful-laid {m} L =
@@ -305,6 +323,7 @@ lawful-laid {m} L =
     let hues : ((b : ℕ) → b < m .blocks → m .colour b < leaving m (m .owner b)) = block-colour m (L .blocked) in
     record {
       ground = grounded m (L .some) (L .places) (L .blocks) (L .ratios) (L .placed) (blocks-lie m (L .blocked));
+      gazetteer = L .gazetteer;
       stages = L .stages;
       tails = λ i p. S .each i p .tail;
       heads = λ i p. S .each i p .head;
@@ -323,7 +342,11 @@ pub offices-stand : (m : Map) (o : Offices) → officesHold m o ≡ true → (i 
 unfolding officesHold
 offices-stand m o h i p = ltb-true _ _ (every-true (o .count) (λ i. ltb (o .stand i) (m .places)) h i p)
 
--- the ratios of a sheet are words
+-- the gazetteer numbers and the ratios of a sheet are words
+pub gazetteer-lt : (s : List ℕ) → Bytes s → (v : ℕ) → mapOf s .gazetteer v < 2 ^ 32
+unfolding mapOf
+gazetteer-lt s bytes v = word-lt s bytes (3 + placeWords * v)
+
 pub ratio-lt : (s : List ℕ) → Bytes s → (b : ℕ) → mapOf s .high b < 2 ^ 32
 unfolding mapOf
 ratio-lt s bytes b = word-lt s bytes (blocksAt s + 6 + blockWords * b)
@@ -338,6 +361,7 @@ lawful s bytes h =
       places = P .whole .places .most;
       stages = P .whole .stages .most;
       blocks = P .whole .blocks .most;
+      gazetteer = λ v p. gazetteer-lt s bytes v;
       ratios = λ b p. ratio-lt s bytes b;
       placed = P .places;
       staged = P .stages;

@@ -13,6 +13,8 @@ pub record Grounded (m : Map) : Type 0 where
   pub xs : (v : ℕ) → v < m .places → m .x v < gridSide
   pub ys : (v : ℕ) → v < m .places → m .y v < gridSide
   pub apart : (u v : ℕ) → u < v → v < m .places → m .x u ≡ m .x v → m .y u ≡ m .y v → ⊥
+  pub numbered : (v : ℕ) → v < m .places → 1 ≤ m .gazetteer v
+  pub unlike : (u v : ℕ) → u < v → v < m .places → m .gazetteer u ≡ m .gazetteer v → ⊥
   pub owners : (b : ℕ) → b < m .blocks → m .owner b < m .places
   pub levels : (b : ℕ) → b < m .blocks → m .level b ≤ topLevel
   pub codes : (b : ℕ) → b < m .blocks → m .code b < 4 ^ topLevel
@@ -24,6 +26,7 @@ pub record Grounded (m : Map) : Type 0 where
 
 pub record LaidOut (m : Map) : Type 0 where
   pub ground : Grounded m
+  pub gazetteer : (v : ℕ) → v < m .places → m .gazetteer v < 2 ^ 32
   pub stages : m .stages ≤ mostStages
   pub tails : (i : ℕ) → i < m .stages → m .tail i < m .places
   pub heads : (i : ℕ) → i < m .stages → m .head i < m .places

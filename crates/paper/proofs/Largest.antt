@@ -57,7 +57,7 @@ ratio-enough L u v d hu hv ne D = omega (arith, distance-far L v hu D, crow-ge (
 corners : List ℕ
 unfolding asBytes
 corners = asBytes wordBytes (
-    3 ∷ 0 ∷ 0 ∷ 1 ∷ 0 ∷ 1023 ∷ 1023 ∷
+    3 ∷ 0 ∷ 0 ∷ 1 ∷ 1 ∷ 0 ∷ 2 ∷ 1023 ∷ 1023 ∷ 4294967295 ∷
     3 ∷ 0 ∷ 2 ∷ 65535 ∷ 1 ∷ 0 ∷ 65535 ∷ 2 ∷ 1 ∷ 65535 ∷
     3 ∷ 0 ∷ 0 ∷ 10 ∷ 0 ∷ 0 ∷ 4294967295 ∷ 1 ∷ 0 ∷ 10 ∷ 0 ∷ 0 ∷ 4294967295 ∷ 2 ∷ 0 ∷ 10 ∷ 0 ∷ 0 ∷ 4294967295 ∷
     0 ∷ [])
@@ -67,7 +67,7 @@ map = mapOf corners
 
 corners-bytes : Bytes corners
 unfolding corners asBytes every
-corners-bytes i p = ltb-true (getD corners i 0) 256 (every-true 148 (λ i. ltb (getD corners i 0) 256) refl i p)
+corners-bytes i p = ltb-true (getD corners i 0) 256 (every-true 160 (λ i. ltb (getD corners i 0) 256) refl i p)
 
 corners-laid : layout corners ≡ 0
 unfolding layout word corners asBytes

@@ -22,13 +22,13 @@ use Rattle.paper.specs.Marked.{bytes, words, sheet, map, offices, line, 
 use Rattle.paper.proofs.Test.{every-true}
 use Rattle.paper.proofs.Road.{road-least}
 
-pub sheet-size : length sheet ≡ 300
+pub sheet-size : length sheet ≡ 316
 unfolding sheet
 sheet-size = refl
 
 pub sheet-bytes : Bytes sheet
 unfolding sheet every
-sheet-bytes i p = ltb-true (getD sheet i 0) 256 (every-true 300 (λ i. ltb (getD sheet i 0) 256) refl i p)
+sheet-bytes i p = ltb-true (getD sheet i 0) 256 (every-true 316 (λ i. ltb (getD sheet i 0) 256) refl i p)
 
 pub sheet-laid : layout sheet ≡ 0
 unfolding layout sheet word
@@ -83,24 +83,24 @@ marked = record {
 }
 
 -- two offices at place 3, asked from place 1: the second reaches its length while the first still waits at it, and the lower number is listed first
-equal-roads : outcome (listing map (outward (record { count = 2; stand = λ i. 3 }) 1) 2) ≡ served (record { total = 2; lines = line 0 15 15 1 ∷ line 1 15 15 1 ∷ [] })
+equal-roads : outcome (listing map (outward (record { count = 2; stand = λ i. 3 }) 1) 2) ≡ served (record { total = 2; lines = line 0 15 15 1 104 ∷ line 1 15 15 1 104 ∷ [] })
 unfolding listing mapOf sheet word
 equal-roads = refl
 
 -- the reply to q = 2, k = 2 over slices that are one word longer than needed and hold sevens
-question-replied : reply sheet 2 2 (replicate 9 7) (replicate 19 7) ≡ record {
+question-replied : reply sheet 2 2 (replicate 11 7) (replicate 19 7) ≡ record {
   number = 0;
   count = 2;
   refinements = 5;
-  answer = 2 ∷ 5 ∷ 5 ∷ 1 ∷ 0 ∷ 11 ∷ 11 ∷ 2 ∷ 7 ∷ [];
+  answer = 2 ∷ 5 ∷ 5 ∷ 1 ∷ 102 ∷ 0 ∷ 11 ∷ 11 ∷ 2 ∷ 101 ∷ 7 ∷ [];
   working = replicate 18 0 ++ (7 ∷ []);
 }
 unfolding reply sheet word
 question-replied = refl
 
--- the words with one block more, of place 0, that covers place 0's own cell alone: the 30th word on
+-- the words with one block more, of place 0, that covers place 0's own cell alone: the 34th word on
 own-block : List ℕ
-own-block = take 28 words ++ (8 ∷ 0 ∷ 0 ∷ 0 ∷ 0 ∷ 0 ∷ 0 ∷ drop 29 words)
+own-block = take 32 words ++ (8 ∷ 0 ∷ 0 ∷ 0 ∷ 0 ∷ 0 ∷ 0 ∷ drop 33 words)
 
 own-block-laid : layout (bytes own-block) ≡ 0
 unfolding layout word bytes words own-block

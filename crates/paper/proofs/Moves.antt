@@ -30,7 +30,7 @@ module _ {m : Map} {x : Quest} (F : Seen m x) (k : ℕ) (st : State) (I : Inv F 
   t = at ss i .trail
 
   -- the leader is listed
-  listed-inv : clear ss i (leader (retired ss i) (x .count)) ≡ true → Inv F k (listed x st i)
+  listed-inv : clear ss i (leader (retired ss i) (x .count)) ≡ true → Inv F k (listed m x st i)
   listed-inv c = record {
     each = set-all (λ j s. j < x .count → Ok F j s) ss i y h
         (λ p. record { sound = I .each i p .sound; grown = I .each i p .grown; shrunk = I .each i p .shrunk }) (λ j e. I .each j);
@@ -48,16 +48,16 @@ module _ {m : Map} {x : Quest} (F : Seen m x) (k : ℕ) (st : State) (I : Inv F 
     sorted = snoc-all (λ b l. (a : ℕ) → a < b → Nearer F (lineAt ls′ a .number) (l .number)) (st .lines) new-line
         (λ b p a g. rw (old a (omega arith)) (I .sorted b p a g))
         (λ a g. rw (old a g) (I .after a g i (L .here) (L .waits)));
-    shown = snoc-all (λ a l. l ≡ lineOf x (l .number) (at ss′ (l .number) .trail)) (st .lines) new-line
-        (λ a p. I .shown a p ∙ ap (lineOf x (numberOn st a)) (sym (retired-trail ss i h (numberOn st a))))
-        (ap (lineOf x i) (sym (retired-trail ss i h i)));
+    shown = snoc-all (λ a l. l ≡ lineOf m x (l .number) (at ss′ (l .number) .trail)) (st .lines) new-line
+        (λ a p. I .shown a p ∙ ap (lineOf m x (numberOn st a)) (sym (retired-trail ss i h (numberOn st a))))
+        (ap (lineOf m x i) (sym (retired-trail ss i h i)));
     found = set-all (λ j s. j < x .count → s .waits ≡ false → (a : ℕ) × (a < length ls′) × (lineAt ls′ a .number ≡ j)) ss i y h
         (λ p w. (length (st .lines), omega (arith, snoc-length (st .lines) new-line), number))
         (λ j e p w. let (a, g, n) = I .found j p w in (a, omega (arith, snoc-length (st .lines) new-line), rw (old a g) n));
   }
     where
       new-line : Line
-      new-line = lineOf x i t
+      new-line = lineOf m x i t
 
       y : Slot
       y = record { trail = t; waits = false }
@@ -71,7 +71,7 @@ module _ {m : Map} {x : Quest} (F : Seen m x) (k : ℕ) (st : State) (I : Inv F 
       old : (a : ℕ) → a < length (st .lines) → lineAt ls′ a ≡ lineAt (st .lines) a
       old = List·getD-append (st .lines) (new-line ∷ []) noLine
 
-      number : numberOn (listed x st i) (length (st .lines)) ≡ i
+      number : numberOn (listed m x st i) (length (st .lines)) ≡ i
       number = ap (λ (l : Line). l .number) (getD-append-seam (st .lines) new-line [] noLine)
 
       stages : (j : ℕ) → at ss′ j .trail .stages ≡ at ss j .trail .stages
@@ -100,7 +100,7 @@ module _ {m : Map} {x : Quest} (F : Seen m x) (k : ℕ) (st : State) (I : Inv F 
     lines = I .lines;
     after = λ a p j g w. I .after a p j g (sym (waits j) ∙ w);
     sorted = I .sorted;
-    shown = λ a p. I .shown a p ∙ ap (lineOf x (numberOn st a)) (sym (kept (numberOn st a) (I .after a p i (L .here) (L .waits))));
+    shown = λ a p. I .shown a p ∙ ap (lineOf m x (numberOn st a)) (sym (kept (numberOn st a) (I .after a p i (L .here) (L .waits))));
     found = λ j p w. I .found j p (sym (waits j) ∙ w);
   }
     where

@@ -81,7 +81,7 @@ module _ (laid : ℕ) (m : Map) (o : Offices) (q k : ℕ) (answer working : List
   asked : officesHold m o ≡ true → ValidOn m o q k answer working → Asked m x k
   asked h g =
       let X : Allowed m o q k answer working = valid m o q k answer working g in
-      record { one = X .one; enough = X .enough; leaves = λ i p. X .place; ends = offices-stand m o h }
+      record { one = X .one; enough = X .enough; stands = offices-stand m o h; leaves = λ i p. X .place; ends = offices-stand m o h }
 
   ended-is : (st : State) → listing m x k ≡ served st → endedOn m x k ≡ st
   unfolding endedOn
@@ -141,7 +141,7 @@ pub sheet-listed : (s : List ℕ) (q k : ℕ) (answer working : List ℕ) → By
 sheet-listed s q k answer working bytes h g =
     listing-within (laid-out s bytes h) (asked (layout s) (mapOf s) (officesOf s) q k answer working (passed s h .offices) g)
 
--- the list takes four words for each line, and they are the line's
+-- the list takes five words for each line, and they are the line's
 pub lines-size : (ls : List Line) → length (linesOut ls) ≡ lineWords * length ls
 unfolding linesOut
 lines-size [] = refl
@@ -168,7 +168,8 @@ module _ {m : Map} (x : Quest) (L : LaidOut m) (few : x .count ≤ mostOffices) 
   line-below l W (suc zero) p = omega (arith, W .ordered, W .high)
   line-below l W (suc (suc zero)) p = W .high
   line-below l W (suc (suc (suc zero))) p = omega (arith, W .stages, L .ground .places)
-  line-below l W (suc (suc (suc (suc j)))) p = absurd (omega arith)
+  line-below l W (suc (suc (suc (suc zero)))) p = omega (arith, W .gazetteer)
+  line-below l W (suc (suc (suc (suc (suc j))))) p = absurd (omega arith)
 
   pub lines-below : (ls : List Line) → ((a : ℕ) → a < length ls → LineWithin m x (lineAt ls a)) → (i : ℕ) → i < length (linesOut ls) → getD (linesOut ls) i 0 < endBelow
   lines-below ls W i p =

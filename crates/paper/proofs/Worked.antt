@@ -51,20 +51,20 @@ sheet-checked before h = rw table-verdict at (judged table sheet-laid h distance
     }
 
 -- a question on it is answered, whatever slices it is lent
-pub sheet-answered : (answer working : List ℕ) → 8 ≤ length answer → 18 ≤ length working → Answered sheet 2 2 answer (reply sheet 2 2 answer working)
+pub sheet-answered : (answer working : List ℕ) → 10 ≤ length answer → 18 ≤ length working → Answered sheet 2 2 answer (reply sheet 2 2 answer working)
 unfolding mapOf officesOf sheet word invalid
 sheet-answered answer working h g =
     reply-answered sheet 2 2 answer working sheet-bytes accepted
-    (due-zero (both (leb 8 (length answer)) (leb 18 (length working))) 9 (both-true (leb 8 (length answer)) (leb 18 (length working)) (le-leb _ _ h) (le-leb _ _ g)))
+    (due-zero (both (leb 10 (length answer)) (leb 18 (length working))) 9 (both-true (leb 10 (length answer)) (leb 18 (length working)) (le-leb _ _ h) (le-leb _ _ g)))
 
 -- the same question through C, with slices that are just long enough: it is valid, and this stands in the answer and in the counts
 abbrev hostMarked : HostReply
-hostMarked = hostReply sheet 2 2 (replicate 64 0) (replicate 144 0) (replicate 16 0)
+hostMarked = hostReply sheet 2 2 (replicate 80 0) (replicate 144 0) (replicate 16 0)
 
-pub host-marked-valid : HostValid sheet 2 2 (replicate 64 0) (replicate 144 0) (replicate 16 0)
+pub host-marked-valid : HostValid sheet 2 2 (replicate 80 0) (replicate 144 0) (replicate 16 0)
 unfolding hostInvalid invalid mapOf officesOf sheet word wordsOf
 host-marked-valid = refl
 
-pub host-marked : (hostMarked .number ≡ 0) × (hostMarked .answer ≡ asBytes longBytes (2 ∷ 5 ∷ 5 ∷ 1 ∷ 0 ∷ 11 ∷ 11 ∷ 2 ∷ [])) × (hostMarked .counts ≡ asBytes longBytes (2 ∷ 5 ∷ []))
+pub host-marked : (hostMarked .number ≡ 0) × (hostMarked .answer ≡ asBytes longBytes (2 ∷ 5 ∷ 5 ∷ 1 ∷ 102 ∷ 0 ∷ 11 ∷ 11 ∷ 2 ∷ 101 ∷ [])) × (hostMarked .counts ≡ asBytes longBytes (2 ∷ 5 ∷ []))
 unfolding hostReply sheet word wordsOf asBytes listing linesOut
 host-marked = (refl, refl, refl)

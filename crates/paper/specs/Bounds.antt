@@ -1,5 +1,5 @@
 -- How large the numbers of a walk grow, on a map that keeps the layout rules (document 02, item 8).
-use Prim.Native.Nat.{ℕ, _+_, _*_, _≤_, _<_}
+use Prim.Native.Nat.{ℕ, _+_, _*_, _^_, _≤_, _<_}
 use mathlib.Core.Path.{_≡_}
 use mathlib.Core.Option.{some}
 use lib.ListN.{length, getD}
@@ -52,6 +52,7 @@ pub record LineWithin (m : Map) (x : Quest) (l : Line) : Type 0 where
   pub ordered : l .low ≤ l .high
   pub high : l .high < endBelow
   pub stages : l .stages < m .places
+  pub gazetteer : l .gazetteer < 2 ^ 32
 
 -- a listing of the quest x: every trail is one that a walk comes to, and every line and the total are within their bounds
 pub record ListedWithin (m : Map) (x : Quest) (st : State) : Type 0 where

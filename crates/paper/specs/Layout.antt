@@ -5,7 +5,7 @@ use mathlib.Core.List.{List}
 use lib.Dec.{leb, ltb, eqb}
 use lib.ListN.{length, getD}
 use Rattle.paper.specs.Sizes.{placeWords, stageWords, blockWords, officeWords, mostPlaces, mostStages, mostBlocks, mostOffices, gridSide, topLevel, mostFurlongs, mostLeaving}
-use Rattle.paper.specs.Test.{both, either, every, due, orElse}
+use Rattle.paper.specs.Test.{both, either, every, apart, due, orElse}
 use Rattle.paper.specs.Order.{before}
 use Rattle.paper.specs.Map.{Map, Offices}
 use Rattle.paper.specs.Sheet.{word, stagesAt, blocksAt, officesAt, mapOf, officesOf}
@@ -42,18 +42,22 @@ sections s =
     (orElse (section s (officesAt s) 0 mostOffices officeWords)
     (due (eqb (endsAt s) (wordsIn s)) 1)))))
 
+-- x and y are 0 to 1,023, the gazetteer number is not 0
+unfoldable pub placeHolds : Map → ℕ → Bool
+placeHolds m i = both (both (ltb (m .x i) gridSide) (ltb (m .y i) gridSide)) (not (eqb (m .gazetteer i) 0))
+
 -- places i and j share a cell
 abbrev pub sharing : Map → ℕ → ℕ → Bool
 sharing m i j = both (eqb (m .x i) (m .x j)) (eqb (m .y i) (m .y j))
 
--- x and y are 0 to 1,023; no earlier place shares the cell
-unfoldable pub placeHolds : Map → ℕ → Bool
-unfolding every
-placeHolds m i = both (both (ltb (m .x i) gridSide) (ltb (m .y i) gridSide)) (every i (λ j. not (sharing m j i)))
+-- they share a gazetteer number
+abbrev pub sharingNumber : Map → ℕ → ℕ → Bool
+sharingNumber m i j = eqb (m .gazetteer i) (m .gazetteer j)
 
+-- each place holds, no two share a cell, and no two a gazetteer number
 unfoldable pub placesHold : Map → Bool
-unfolding every placeHolds
-placesHold m = every (m .places) (placeHolds m)
+unfolding every placeHolds apart
+placesHold m = both (every (m .places) (placeHolds m)) (both (apart (m .places) (sharing m)) (apart (m .places) (sharingNumber m)))
 
 -- tail and head are places and different, the length is 1 to 65,535
 unfoldable pub stageHolds : Map → ℕ → Bool

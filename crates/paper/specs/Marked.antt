@@ -19,7 +19,7 @@ bytes (w ∷ r) = w % 256 ∷ w / 256 ∷ 0 ∷ 0 ∷ bytes r
 
 unfoldable pub words : List ℕ
 words =
-    4 ∷ 0 ∷ 0 ∷ 3 ∷ 4 ∷ 6 ∷ 8 ∷ 0 ∷ 5 ∷
+    4 ∷ 0 ∷ 0 ∷ 101 ∷ 3 ∷ 4 ∷ 102 ∷ 6 ∷ 8 ∷ 103 ∷ 0 ∷ 5 ∷ 104 ∷
     6 ∷ 0 ∷ 1 ∷ 6 ∷ 0 ∷ 3 ∷ 9 ∷ 1 ∷ 0 ∷ 6 ∷ 1 ∷ 2 ∷ 5 ∷ 2 ∷ 1 ∷ 5 ∷ 3 ∷ 0 ∷ 9 ∷
     7 ∷
     0 ∷ 32 ∷ 1 ∷ 1 ∷ 115 ∷ 116 ∷
@@ -50,8 +50,8 @@ offices = officesOf sheet
 abbrev pub interval : ℕ → ℕ → ℕ → Served Trail
 interval via a b = served (record { via = via; walked = 0; low = a; high = b; stages = 0 })
 
-abbrev pub line : ℕ → ℕ → ℕ → ℕ → Line
-line n a b s = record { number = n; low = a; high = b; stages = s }
+abbrev pub line : ℕ → ℕ → ℕ → ℕ → ℕ → Line
+line n a b s g = record { number = n; low = a; high = b; stages = s; gazetteer = g }
 
 -- what a question tells: the total of refinements, and the list
 pub record Outcome : Type 0 where
@@ -61,7 +61,7 @@ pub record Outcome : Type 0 where
 abbrev pub outcome : Served State → Served Outcome
 outcome r = andThen r (λ st. served (record { total = st .total; lines = st .lines }))
 
--- P1 to P10; P2 to P4 at the scale of document 02, item 11
+-- P1 to P10; P2 to P4 at the scale of document 02, item 11, the lines of P9 and P10 with the gazetteer numbers of item 2
 pub record MarkedTable : Type 0 where
   pub p1 : (cell map 1 ≡ 37) × (cell map 2 ≡ 148) × (cell map 3 ≡ 34)
   pub p2 : crow map 0 1 ≡ 320
@@ -71,5 +71,5 @@ pub record MarkedTable : Type 0 where
   pub p6 : IsD map 0 2 11
   pub p7 : (start map 2 (offices .stand 0) ≡ interval 2 10 30) × (start map 2 (offices .stand 1) ≡ interval 2 7 20) × (start map 2 (offices .stand 2) ≡ interval 2 5 15)
   pub p8 : andThen (start map 2 (offices .stand 1)) (refine map (offices .stand 1)) ≡ served (record { via = 1; walked = 5; low = 9; high = 20; stages = 1 })
-  pub p9 : outcome (listing map (outward offices 2) 1) ≡ served (record { total = 1; lines = line 2 5 5 1 ∷ [] })
-  pub p10 : outcome (listing map (outward offices 2) 2) ≡ served (record { total = 5; lines = line 2 5 5 1 ∷ line 0 11 11 2 ∷ [] })
+  pub p9 : outcome (listing map (outward offices 2) 1) ≡ served (record { total = 1; lines = line 2 5 5 1 102 ∷ [] })
+  pub p10 : outcome (listing map (outward offices 2) 2) ≡ served (record { total = 5; lines = line 2 5 5 1 102 ∷ line 0 11 11 2 101 ∷ [] })

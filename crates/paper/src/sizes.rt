@@ -8,7 +8,7 @@ pub const LONG_BYTES: usize = 8;
 pub const COUNTS_BYTES: usize = 2 * LONG_BYTES;
 
 // Words of a place, a stage, a block and an office record.
-pub const PLACE_WORDS: usize = 2;
+pub const PLACE_WORDS: usize = 3;
 
 pub const STAGE_WORDS: usize = 3;
 
@@ -17,7 +17,7 @@ pub const BLOCK_WORDS: usize = 6;
 pub const OFFICE_WORDS: usize = 1;
 
 // Words of the answer slice for each listed office, and of the working slice for each office.
-pub const LINE_WORDS: usize = 4;
+pub const LINE_WORDS: usize = 5;
 
 pub const SLOT_WORDS: usize = 6;
 

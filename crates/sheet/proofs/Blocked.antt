@@ -11,10 +11,9 @@ use Rattle.paper.specs.Test.{every}
 use Rattle.paper.specs.Map.{Map}
 use Rattle.paper.specs.Layout.{blockLies, blockHolds, blockAscends, blocksHold}
 use Rattle.paper.proofs.Laid.{BlockOk, block-one}
-use Rattle.paper.proofs.Test.{both-true, both-left, both-false-right, every-true, every-false}
+use Rattle.paper.proofs.Test.{both-true, both-left, both-false-right, every-true, every-false, every-more}
 use Rattle.cells.proofs.Fours.{four-most}
 use Rattle.sheet.proofs.Pairs.{pair-leb}
-use Rattle.sheet.proofs.Placed.{every-more}
 
 -- more than any end of a block
 abbrev pub span : ℕ

@@ -11,7 +11,7 @@ use Rattle.paper.specs.Layout.{Bytes, sections, layout}
 use Rattle.paper.specs.Ground.{Lawful}
 use Rattle.paper.proofs.LaidOut.{Grounded}
 use Rattle.paper.proofs.Test.{or-left}
-use Rattle.paper.proofs.Laid.{Passed, passed, blocks-lie, grounded, ratio-lt, offices-stand}
+use Rattle.paper.proofs.Laid.{Passed, passed, blocks-lie, grounded, gazetteer-lt, ratio-lt, offices-stand}
 use Rattle.paper.proofs.Ground.{same-refl}
 use Rattle.sheet.specs.Laid.{countsOf, Sectioned, officesFrom, listFrom}
 use Rattle.sheet.specs.Book.{Leads}
@@ -37,6 +37,7 @@ module _ {g : List ℕ} {c : Counts} (M : Mapped g c) where
         places = omega (arith, R .within .places, R .places);
         stages = omega (arith, R .within .stages, R .stages);
         blocks = omega (arith, R .within .blocks, R .blocks);
+        gazetteer = λ v p. gazetteer-lt g bytes v;
         ratios = λ b p. ratio-lt g bytes b;
         placed = M .places;
         staged = M .stages;

@@ -1,95 +1,68 @@
--- The places up to one of them: each lies on the grid, and no two in one cell.
-use Prim.Native.Nat.{ℕ, zero, suc, _+_, _*_, _≤_, _<_}
+-- The places up to one of them, each with its cell and its gazetteer number; and the rule of the places by these.
+use Prim.Native.Nat.{ℕ, _+_, _<_}
 use native.Mathlib.Omega.{arith}
 use native.Mathlib.Decide.{ℕ-discrete}
-use native.Mathlib.Numerals.{add-one}
-use mathlib.Core.Path.{_≡_, refl, sym, _∙_}
+use mathlib.Core.Path.{_≡_, refl, sym}
 use mathlib.Core.Bool.{Bool, true, false, not}
 use mathlib.Core.List.{List}
-use lib.Dec.{eqb}
+use lib.Dec.{ltb, eqb}
 use lib.ListN.{length, getD, set}
 use lib.Seq.{getD-set-same, getD-set-other}
-use borrow.Author.Tests.{lt-ltb, le-ltb, eq-eqb, ne-eqb}
+use borrow.Author.Tests.{ltb-true}
 use Rattle.paper.specs.Sizes.{gridSide}
-use Rattle.paper.specs.Test.{both, every}
+use Rattle.paper.specs.Test.{both, every, apart}
 use Rattle.paper.specs.Map.{Map}
-use Rattle.paper.specs.Layout.{sharing, placeHolds, placesHold}
-use Rattle.paper.proofs.Test.{both-true, both-false-right, every-false}
+use Rattle.paper.specs.Layout.{sharing, sharingNumber, placeHolds, placesHold}
+use Rattle.paper.proofs.Test.{both-left, both-right, both-false-left, every-more, apart-same}
+use Rattle.sheet.specs.Records.{Kept, Taken}
 use Rattle.sheet.proofs.Pairs.{pair-eqb}
 
-pub every-same : (n : ℕ) (f g : ℕ → Bool) → ((i : ℕ) → i < n → f i ≡ g i) → every n f ≡ every n g
-unfolding every
-every-same zero f g h = refl
-every-same (suc n) f g h = rw (every-same n f g (λ i p. h i (omega arith)), h n (omega arith))
-
-both-so : (b : Bool) → both b true ≡ b
-both-so true = refl
-both-so false = refl
-
-pub every-more : (n : ℕ) (f : ℕ → Bool) → every n f ≡ true → f n ≡ true → every (n + 1) f ≡ true
-unfolding every
-every-more n f p q = rw (add-one n) (both-true (every n f) (f n) p q)
-
--- one cell more to compare with
-module _ (cells : List ℕ) (cell j : ℕ) where
-  pub met : getD cells j 0 ≡ cell → false ≡ every (j + 1) (λ k. not (eqb (getD cells k 0) cell))
-  unfolding every
-  met e = rw (add-one j) (sym (both-false-right (every j (λ k. not (eqb (getD cells k 0) cell))) _ (rw (eq-eqb (getD cells j 0) cell e))))
-
-  pub unmet : (free : Bool) → free ≡ every j (λ k. not (eqb (getD cells k 0) cell)) → (getD cells j 0 ≡ cell → ⊥) → free ≡ every (j + 1) (λ k. not (eqb (getD cells k 0) cell))
-  unfolding every
-  unmet free h e = rw (add-one j, ne-eqb (getD cells j 0) cell e) (h ∙ sym (both-so (every j (λ k. not (eqb (getD cells k 0) cell)))))
-
--- the place k lies on the grid, and n is its cell as one number
-pub record Kept (m : Map) (k n : ℕ) : Type 0 where
-  pub x : m .x k < gridSide
-  pub y : m .y k < gridSide
-  pub cell : n ≡ m .x k * gridSide + m .y k
-
--- the first i places hold, and their cells are kept
-pub record Placed (m : Map) (i : ℕ) (cells : List ℕ) : Type 0 where
+-- the first i places hold, and their cells and numbers are taken
+pub record Placed (m : Map) (i : ℕ) (cells numbers : List ℕ) : Type 0 where
   pub each : every i (placeHolds m) ≡ true
-  pub kept : (k : ℕ) → k < i → Kept m k (getD cells k 0)
+  pub taken : Taken m i cells numbers
 
-pub placed-start : (m : Map) (cells : List ℕ) → Placed m 0 cells
+pub placed-start : (m : Map) (cells numbers : List ℕ) → Placed m 0 cells numbers
 unfolding every
-placed-start m cells = record { each = refl; kept = λ k p. absurd (omega arith) }
+placed-start m cells numbers = record { each = refl; taken = λ v p. absurd (omega arith) }
+
+-- a place that holds lies on the grid
+pub holds-on-grid : (m : Map) (i : ℕ) → placeHolds m i ≡ true → (m .x i < gridSide) × (m .y i < gridSide)
+unfolding placeHolds
+holds-on-grid m i h =
+    let x : Bool = ltb (m .x i) gridSide in
+    let y : Bool = ltb (m .y i) gridSide in
+    let xy : both x y ≡ true = both-left (both x y) (not (eqb (m .gazetteer i) 0)) h in
+    (ltb-true _ _ (both-left x y xy), ltb-true _ _ (both-right x y xy))
 
 -- one place more
-module _ (m : Map) (i : ℕ) (more : i < m .places) where
-  fails : placeHolds m i ≡ false → false ≡ placesHold m
-  unfolding placesHold
-  fails e = sym (every-false (m .places) (placeHolds m) i more e)
+module _ {m : Map} {i : ℕ} {cells numbers : List ℕ} (P : Placed m i cells numbers) where
+  pub placed-step : (n g : ℕ) → placeHolds m i ≡ true → Kept m i n g → i < length cells → i < length numbers → Placed m (i + 1) (set cells i n) (set numbers i g)
+  placed-step n g h K p q = record { each = every-more i (placeHolds m) (P .each) h; taken = taken }
+    where
+      taken : Taken m (i + 1) (set cells i n) (set numbers i g)
+      taken v l = elim (ℕ-discrete v i) [
+        | yes e ↦ rw (e, getD-set-same cells i n 0 p, getD-set-same numbers i g 0 q) K
+        | no e ↦ rw (getD-set-other cells i v n 0 e, getD-set-other numbers i v g 0 e) (P .taken v (omega arith))
+      ]
 
-  pub off-x : gridSide ≤ m .x i → false ≡ placesHold m
-  unfolding placeHolds
-  off-x h = fails (rw (le-ltb (m .x i) gridSide h))
+-- what the words of the two slices tell of the rule
+module _ (m : Map) (n : ℕ) (cells numbers : List ℕ) (e : n ≡ m .places) where
+  abbrev same : List ℕ → ℕ → ℕ → Bool
+  same words j i = eqb (getD words j 0) (getD words i 0)
 
-  pub off-y : m .x i < gridSide → gridSide ≤ m .y i → false ≡ placesHold m
-  unfolding placeHolds
-  off-y p h = fails (rw (lt-ltb (m .x i) gridSide p, le-ltb (m .y i) gridSide h))
+  module _ (h : every n (placeHolds m) ≡ true) (T : Taken m n cells numbers) where
+    cells-by : apart n (same cells) ≡ apart n (sharing m)
+    cells-by = apart-same n (same cells) (sharing m) (λ i j p q. let J : Kept m j _ _ = T j (omega arith) in let I : Kept m i _ _ = T i p in
+        rw (J .cell, I .cell) (pair-eqb gridSide (m .x j) (m .y j) (m .x i) (m .y i) (J .y) (I .y)))
 
-  module _ {cells : List ℕ} {n : ℕ} (P : Placed m i cells) (K : Kept m i n) where
-    -- the test that the code makes is that of the paper
-    holds-by : placeHolds m i ≡ every i (λ j. not (eqb (getD cells j 0) n))
-    unfolding placeHolds
-    holds-by = rw (lt-ltb (m .x i) gridSide (K .x), lt-ltb (m .y i) gridSide (K .y)) (every-same i _ _ same)
-      where
-        same : (j : ℕ) → j < i → not (sharing m j i) ≡ not (eqb (getD cells j 0) n)
-        same j q = rw (P .kept j q .cell, K .cell, pair-eqb gridSide (m .x j) (m .y j) (m .x i) (m .y i) (P .kept j q .y) (K .y))
+    numbers-by : apart n (same numbers) ≡ apart n (sharingNumber m)
+    numbers-by = apart-same n (same numbers) (sharingNumber m) (λ i j p q. rw (T j (omega arith) .gazetteer, T i p .gazetteer))
 
-    pub taken : every i (λ j. not (eqb (getD cells j 0) n)) ≡ false → false ≡ placesHold m
-    taken e = fails (holds-by ∙ e)
+    pub places-by : both (apart n (same cells)) (apart n (same numbers)) ≡ placesHold m
+    unfolding placesHold
+    places-by = rw (cells-by, numbers-by, e, rw e at h)
 
-    pub placed-step : every i (λ j. not (eqb (getD cells j 0) n)) ≡ true → i < length cells → Placed m (i + 1) (set cells i n)
-    placed-step e q = record { each = every-more i (placeHolds m) (P .each) (holds-by ∙ e); kept = kept }
-      where
-        kept : (k : ℕ) → k < i + 1 → Kept m k (getD (set cells i n) k 0)
-        kept k l = elim (ℕ-discrete k i) [
-          | yes d ↦ rw (d, getD-set-same cells i n 0 q) K
-          | no d ↦ rw (getD-set-other cells i k n 0 d) (P .kept k (omega arith))
-        ]
-
-pub placed-end : {m : Map} {i : ℕ} {cells : List ℕ} → Placed m i cells → i ≡ m .places → true ≡ placesHold m
+pub places-fail : (m : Map) (n : ℕ) → n ≡ m .places → every n (placeHolds m) ≡ false → false ≡ placesHold m
 unfolding placesHold
-placed-end P e = sym (rw e at (P .each))
+places-fail m n e h = sym (both-false-left (every (m .places) (placeHolds m)) _ (rw e at h))

@@ -17,10 +17,9 @@ use Rattle.paper.specs.Map.{Map}
 use Rattle.paper.specs.Stage.{leaving}
 use Rattle.paper.specs.Slice.{Untouched}
 use Rattle.paper.specs.Layout.{stageHolds, stageAscends, stagesHold}
-use Rattle.paper.proofs.Test.{both-true, both-left, both-right, both-false-right, every-true, every-of, every-false}
+use Rattle.paper.proofs.Test.{both-true, both-left, both-right, both-false-right, every-true, every-of, every-false, every-more}
 use Rattle.sheet.specs.Records.{Zeros, Leaving}
 use Rattle.sheet.proofs.Pairs.{pair-leb}
-use Rattle.sheet.proofs.Placed.{every-more}
 
 -- how many of the first n stages leave u
 pub leavingBelow : Map → ℕ → ℕ → ℕ

@@ -1,9 +1,10 @@
 -- The records of a map as the code reads them.
-use Prim.Native.Nat.{ℕ, _≤_, _<_}
+use Prim.Native.Nat.{ℕ, _+_, _*_, _≤_, _<_}
 use mathlib.Core.Path.{_≡_}
 use mathlib.Core.List.{List}
 use lib.ListN.{length, getD}
 use Rattle.paper.specs.declared.Cell.{Cell}
+use Rattle.paper.specs.Sizes.{gridSide}
 use Rattle.paper.specs.Map.{Map}
 use Rattle.paper.specs.Stage.{leaving}
 use Rattle.sheet.specs.declared.stages.Stage.{Stage}
@@ -13,6 +14,17 @@ use Rattle.sheet.specs.declared.blocks.Block.{Block}
 pub record LiesAt (m : Map) (v : ℕ) (c : Cell) : Type 0 where
   pub x : c .x ≡ m .x v
   pub y : c .y ≡ m .y v
+
+-- the place v holds: it lies on the grid, n is its cell as one number, and g is its gazetteer number
+pub record Kept (m : Map) (v n g : ℕ) : Type 0 where
+  pub x : m .x v < gridSide
+  pub y : m .y v < gridSide
+  pub cell : n ≡ m .x v * gridSide + m .y v
+  pub gazetteer : g ≡ m .gazetteer v
+
+-- so does each of the first n places, by the words of the two slices
+abbrev pub Taken : Map → ℕ → List ℕ → List ℕ → Type 0
+Taken m n cells numbers = (v : ℕ) → v < n → Kept m v (getD cells v 0) (getD numbers v 0)
 
 pub record StageIs (m : Map) (i : ℕ) (t : Stage) : Type 0 where
   pub tail : m .tail i ≡ t .tail

@@ -38,6 +38,8 @@ const BYTES: usize = WORD_BYTES * WORDS;
 // The words that the cases change.
 const X_OF_PLACE_2: usize = 1 + PLACE_WORDS * 2;
 
+const GAZETTEER_OF_PLACE_3: usize = 3 + PLACE_WORDS * 3;
+
 const LENGTH_OF_STAGE_0: usize = STAGES_AT + STAGE_WORDS;
 
 const LEVEL_OF_BLOCK_5: usize = BLOCKS_AT + 3 + BLOCK_WORDS * 5;
@@ -175,6 +177,18 @@ fn questions() {
 fn layouts() {
     laid(b"x 1,023: layout ", &with_word(X_OF_PLACE_2, 1023));
     laid(b"x 1,024: layout ", &with_word(X_OF_PLACE_2, 1024));
+    laid(
+        b"gazetteer number 0 of place 3: layout ",
+        &with_word(GAZETTEER_OF_PLACE_3, 0),
+    );
+    laid(
+        b"gazetteer number 101 of place 3, as of place 0: layout ",
+        &with_word(GAZETTEER_OF_PLACE_3, 101),
+    );
+    laid(
+        b"gazetteer number 4,294,967,295 of place 3: layout ",
+        &with_word(GAZETTEER_OF_PLACE_3, 4_294_967_295),
+    );
     laid(
         b"length 65,535: layout ",
         &with_word(LENGTH_OF_STAGE_0, 65535),

@@ -13,6 +13,7 @@ use Rattle.paper.specs.Road.{Road}
 use Rattle.paper.specs.Slice.{cleared}
 use Rattle.paper.specs.Verdict.{area, CheckedOn}
 use Rattle.paper.proofs.Laid.{lawful-laid}
+use Rattle.paper.proofs.Cleared.{zeros}
 use Rattle.sheet.specs.Ground.{Ground}
 use Rattle.quadtree.proofs.Words.{standing}
 use Rattle.truth.specs.declared.pairs.Fault.{Fault}
@@ -21,7 +22,6 @@ use Rattle.truth.specs.Table.{Stored}
 use Rattle.truth.specs.Faults.{numberOf}
 use Rattle.truth.specs.Roads.{Surveyed, Survey}
 use Rattle.truth.specs.Columns.{ColumnIs}
-use Rattle.truth.proofs.Scans.{zeros}
 use Rattle.truth.proofs.Progress.{Progress, progress-none, progress-more, end-cut-off, end-judged}
 
 -- v columns are judged, and stand in the table; the column and the marks have room

@@ -6,12 +6,12 @@ use mathlib.Core.Path.{_≡_, refl, sym, _∙_}
 use mathlib.Core.Bool.{Bool, true, false, not}
 use mathlib.Core.List.{List}
 use lib.Dec.{eqb}
-use lib.ListN.{getD, replicate}
+use lib.ListN.{getD}
 use borrow.Author.Tests.{eqb-true, eq-eqb, not-true, not-false}
 use Rattle.paper.specs.Test.{both, every, any}
 use Rattle.paper.specs.Map.{Map}
 use Rattle.paper.specs.Road.{Road, IsD}
-use Rattle.paper.proofs.Test.{true-false, any-true, any-of, both-true}
+use Rattle.paper.proofs.Test.{true-false, any-true, any-of}
 use Rattle.roads.specs.Towards.{far, Towards}
 use Rattle.truth.specs.Roads.{Reached}
 
@@ -27,10 +27,6 @@ every-not (suc n) f h = go (every n f) (every-not n f) (f n) refl h
     go false g t q h = let (i, p, r) = g refl in (i, omega arith, r)
 
 -- one more word is looked at, and the look goes on
-pub every-more : (n : ℕ) (f : ℕ → Bool) → every n f ≡ true → f n ≡ true → every (n + 1) f ≡ true
-unfolding every
-every-more n f h q = rw add-one (both-true (every n f) (f n) h q)
-
 pub any-more : (n : ℕ) (f : ℕ → Bool) → any n f ≡ false → f n ≡ false → any (n + 1) f ≡ false
 unfolding any
 any-more n f h q = rw (add-one, h) q
@@ -51,9 +47,3 @@ reached m n v column T cut e = record { all = λ h. near (sym e ∙ not-true cut
 
     near : any n is-far ≡ false → (u : ℕ) → u < n → IsD m u v (getD column u 0)
     near h u p = T .near u p (omega (arith, T .low u p, not-far h u p))
-
--- every word of a slice of zeros is 0, past its end too
-pub zeros : (n i : ℕ) → _≡_ {A = ℕ} (getD (replicate n 0) i 0) 0
-zeros zero i = refl
-zeros (suc n) zero = refl
-zeros (suc n) (suc i) = zeros n i

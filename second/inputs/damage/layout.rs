@@ -4,10 +4,12 @@ use crate::inputs::damage::fault::{one, Fault};
 use crate::inputs::rng::Rng;
 use crate::rules::sheet::{Sheet, Stage};
 
-pub const LAYOUT_FAULTS: [Fault; 20] = [
+pub const LAYOUT_FAULTS: [Fault; 22] = [
     coordinate,
     shared_cell,
     moved_place,
+    gazetteer,
+    gazetteer_twice,
     length,
     head,
     tail,
@@ -39,21 +41,37 @@ fn coordinate(rng: &mut Rng, sheet: &mut Sheet) {
     let value = rng.pick(&[1_023, 1_024, 1_025, u32::MAX]);
     let across = rng.chance(8);
     if let Some(place) = one(rng, &mut sheet.places) {
-        *(if across { &mut place.x } else { &mut place.y }) = value;
+        *(if across { &mut place.cell.x } else { &mut place.cell.y }) = value;
     }
 }
 
 fn shared_cell(rng: &mut Rng, sheet: &mut Sheet) {
-    let cell = rng.pick(&sheet.places);
+    let cell = rng.pick(&sheet.places).cell;
     if let Some(place) = one(rng, &mut sheet.places) {
-        *place = cell;
+        place.cell = cell;
     }
 }
 
 fn moved_place(rng: &mut Rng, sheet: &mut Sheet) {
     let step = rng.pick(&[1, 2, 64]);
     if let Some(place) = one(rng, &mut sheet.places) {
-        place.x = place.x.saturating_add(step);
+        place.cell.x = place.cell.x.saturating_add(step);
+    }
+}
+
+fn gazetteer(rng: &mut Rng, sheet: &mut Sheet) {
+    let value = rng.pick(&[0, 0, 1, u32::MAX]);
+    if let Some(place) = one(rng, &mut sheet.places) {
+        place.gazetteer = value;
+    }
+}
+
+/// The number of another place, or one that differs from it in one bit.
+fn gazetteer_twice(rng: &mut Rng, sheet: &mut Sheet) {
+    let number = rng.pick(&sheet.places).gazetteer;
+    let other = if rng.chance(12) { 0 } else { 1 << rng.below(32) };
+    if let Some(place) = one(rng, &mut sheet.places) {
+        place.gazetteer = number ^ other;
     }
 }
 

@@ -127,9 +127,9 @@ fn add_cell_block(sheet: &mut Sheet, place: u32, code: u32) {
 fn idle_block(rng: &mut Rng, sheet: &mut Sheet) {
     for _ in 0..20 {
         let place = rng.below(sheet.places.len());
-        let beside = code_of(sheet.places[place]) as u32 ^ rng.pick(&[1, 2, 3, 5, 1 << 19]);
+        let beside = code_of(sheet.places[place].cell) as u32 ^ rng.pick(&[1, 2, 3, 5, 1 << 19]);
         let code = if rng.chance(8) { beside } else { rng.between(0, 1_048_575) };
-        if !sheet.places.iter().any(|&p| code_of(p) == u64::from(code)) {
+        if !sheet.places.iter().any(|p| code_of(p.cell) == u64::from(code)) {
             add_cell_block(sheet, place as u32, code);
         }
     }
@@ -137,7 +137,7 @@ fn idle_block(rng: &mut Rng, sheet: &mut Sheet) {
 
 fn own_cell_block(_: &mut Rng, sheet: &mut Sheet) {
     for place in 0..sheet.places.len() {
-        add_cell_block(sheet, place as u32, code_of(sheet.places[place]) as u32);
+        add_cell_block(sheet, place as u32, code_of(sheet.places[place].cell) as u32);
     }
 }
 

@@ -1,13 +1,15 @@
 //! Random sheets that tell the truth, and questions about them.
 
+pub mod gazetteer;
 pub mod net;
 pub mod places;
 pub mod trees;
 
 use crate::inputs::rng::Rng;
 use crate::rules::sheet::Sheet;
+use gazetteer::{any_numbers, numbered};
 use net::{stages, Lengths, Net, LENGTH_STYLES, NETS};
-use places::{places, Shape, SHAPES};
+use places::{cells, Shape, SHAPES};
 use trees::{blocks, Habit, RATIO_STYLES};
 
 /// Everything that is settled about a sheet before it is drawn.
@@ -50,7 +52,10 @@ impl Plan {
     }
 
     pub fn sheet(&self, rng: &mut Rng) -> Sheet {
-        let places = places(rng, self.shape, self.places);
+        let cells = cells(rng, self.shape, self.places);
+        let mut aside = rng.aside();
+        let numbers = any_numbers(&mut aside);
+        let places = numbered(&mut aside, &cells, numbers);
         let stages = stages(rng, &places, self.net, self.lengths, self.extra);
         let offices = offices(rng, self.places, self.offices, self.office_places);
         let mut sheet = Sheet { places, stages, blocks: Vec::new(), offices };

@@ -3,7 +3,7 @@
 use crate::inputs::rng::Rng;
 use crate::rules::limits::{LEAVING_MOST, LENGTHS};
 use crate::rules::measure::crow;
-use crate::rules::sheet::{Place, Stage};
+use crate::rules::sheet::{Cell, Place, Stage};
 use std::collections::BTreeMap;
 
 #[derive(Clone, Copy, PartialEq)]
@@ -105,8 +105,8 @@ impl<'a> Drawing<'a> {
 
     /// The crow distance at so many furlongs to a cell.
     fn along_crow(&self, tail: usize, head: usize, furlongs: u64) -> u32 {
-        let cell = crow(Place::at(0, 0), Place::at(1, 0));
-        (crow(self.places[tail], self.places[head]).0 * furlongs / cell.0) as u32
+        let cell = crow(Cell::at(0, 0), Cell::at(1, 0));
+        (crow(self.places[tail].cell, self.places[head].cell).0 * furlongs / cell.0) as u32
     }
 
     pub fn one_loop(&mut self, rng: &mut Rng) {
@@ -144,7 +144,7 @@ impl<'a> Drawing<'a> {
 
     fn chain(&mut self, rng: &mut Rng) {
         let mut order: Vec<usize> = (0..self.places.len()).collect();
-        order.sort_by_key(|&u| (self.places[u].x, self.places[u].y));
+        order.sort_by_key(|&u| self.places[u].cell);
         for pair in order.windows(2) {
             self.add(rng, pair[0], pair[1]);
             self.add(rng, pair[1], pair[0]);

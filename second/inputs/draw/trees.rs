@@ -110,7 +110,7 @@ pub fn quarters(sheet: &Sheet, code: u32, level: u32, places: &[usize]) -> Vec<(
     let size = codes_covered(level - 1) as u32;
     let quarter = |i: u32| {
         let first = code + i * size;
-        let inside = |v: &usize| (first..first + size).contains(&(code_of(sheet.places[*v]) as u32));
+        let inside = |v: &usize| (first..first + size).contains(&(code_of(sheet.places[*v].cell) as u32));
         (first, places.iter().copied().filter(inside).collect())
     };
     (0..4).map(quarter).collect()

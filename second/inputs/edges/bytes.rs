@@ -1,7 +1,7 @@
 //! Edges of the byte length, the cuts and the counts (refusals 1 and 2), and their order.
 
 use crate::inputs::edges::edge::{Due, Edge};
-use crate::inputs::marked;
+use crate::inputs::marked::{self, place};
 use crate::rules::limits::{PLACE_WORDS, WORD_BYTES};
 use crate::rules::refusal::Number;
 use crate::rules::sheet::{bytes_of, words_of, Place, Sheet};
@@ -11,6 +11,7 @@ pub fn all() -> Vec<Edge> {
     edges.extend(lengths());
     edges.extend(counts());
     edges.extend(counts_without_records());
+    edges.extend(old_sheets());
     edges.extend(orders());
     edges
 }
@@ -25,12 +26,12 @@ fn of_words(due: Number, name: &'static str, words: &[u32]) -> Edge {
 
 /// A sheet of one place, then these words.
 fn lone(due: Number, name: &'static str, rest: &[u32]) -> Edge {
-    of_words(due, name, &after_place(Place::at(5, 5), rest))
+    of_words(due, name, &after_place(place([5, 5, 7_005]), rest))
 }
 
 /// The same, its place outside the grid.
 fn off_grid(due: Number, name: &'static str, rest: &[u32]) -> Edge {
-    of_words(due, name, &after_place(Place::at(1_024, 5), rest))
+    of_words(due, name, &after_place(place([1_024, 5, 7_005]), rest))
 }
 
 fn after_place(place: Place, rest: &[u32]) -> Vec<u32> {
@@ -88,7 +89,8 @@ fn counts_without_records() -> Vec<Edge> {
         of_words(2, "no places", &[0]),
         of_words(2, "no places, all counts there", &[0, 0, 0, 0]),
         of_words(1, "one place, no record", &[1]),
-        of_words(1, "one place, half a record", &[1, 5]),
+        of_words(1, "one place, one word of its record", &[1, 5]),
+        of_words(1, "one place, two words of its record", &[1, 5, 5]),
         lone(1, "one place, no stage count", &[]),
         lone(1, "one place, no block count", &[0]),
         lone(1, "one place, no office count", &[0, 0]),
@@ -106,6 +108,25 @@ fn counts_without_records() -> Vec<Edge> {
         lone(2, "4,097 offices, no record", &[0, 0, 4_097]),
     ]
 }
+
+/// Sheets whose places have the two words of the time before item 2: nothing tells them from others, and each is read
+/// as it stands.
+fn old_sheets() -> Vec<Edge> {
+    let mut marked = vec![4, 0, 0, 3, 4, 6, 8, 0, 5];
+    marked.extend(&marked_words()[1 + 4 * PLACE_WORDS..]);
+    vec![
+        // After 12 words of places come no stages, three blocks and 115 offices, a low ratio, which are not there.
+        of_words(1, "the marked sheet of old", &marked),
+        // After nine words of places comes a length as the count of stages.
+        of_words(2, "an old sheet of long stages", &[3, 0, 0, 1, 0, 2, 0, 3, 0, 1, 9_000, 1, 2, 1, 2, 0, 1, 0, 0]),
+        // One stage, one block and ten offices, and nothing left over; the last place has number 0.
+        of_words(3, "an old sheet that makes whole sections", &OLD_AND_WHOLE),
+    ]
+}
+
+/// Two places, two stages, two blocks and three offices: a true sheet before item 2.
+const OLD_AND_WHOLE: [u32; 29] =
+    [2, 0, 0, 5, 5, 2, 0, 1, 1, 1, 0, 1, 2, 0, 0, 10, 0, 0, 10, 1, 0, 10, 0, 0, 10, 3, 0, 0, 1];
 
 fn orders() -> Vec<Edge> {
     let mut odd = bytes_of(&[0, 0, 0, 0]);

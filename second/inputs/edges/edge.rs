@@ -29,3 +29,12 @@ pub fn check(due: Number, name: &'static str, change: impl FnOnce(&mut Sheet)) -
     change(&mut sheet);
     Edge { name, sheet: sheet.to_bytes(), due: Due::Check(due) }
 }
+
+impl Edge {
+    /// One more change on top.
+    pub fn and(self, change: impl FnOnce(&mut Sheet)) -> Edge {
+        let mut sheet = Sheet::from_bytes(&self.sheet).expect("sections are whole");
+        change(&mut sheet);
+        Edge { sheet: sheet.to_bytes(), ..self }
+    }
+}

@@ -1,12 +1,11 @@
-//! Edges of the layout rules 3 to 6, one below, at and one above, and faults in two sections at once.
+//! Edges of the layout rules 4 to 6, one below, at and one above, and faults in two sections at once.
 
 use crate::inputs::edges::edge::{layout, Edge};
-use crate::inputs::marked::{block, stage};
-use crate::rules::sheet::{Place, Sheet};
+use crate::inputs::marked::{block, place, stage};
+use crate::rules::sheet::Sheet;
 
 pub fn all() -> Vec<Edge> {
-    let mut edges = place_edges();
-    edges.extend(stage_edges());
+    let mut edges = stage_edges();
     edges.extend(stage_order_edges());
     edges.extend(block_edges());
     edges.extend(block_colour_edges());
@@ -14,21 +13,6 @@ pub fn all() -> Vec<Edge> {
     edges.extend(office_edges());
     edges.extend(two_at_once());
     edges
-}
-
-fn place_edges() -> Vec<Edge> {
-    vec![
-        layout(0, "x 1,023", |s| s.places[2].x = 1_023),
-        layout(3, "x 1,024", |s| s.places[2].x = 1_024),
-        layout(3, "x 2^32-1", |s| s.places[0].x = u32::MAX),
-        layout(0, "y 1,022", |s| s.places[3].y = 1_022),
-        layout(0, "y 1,023", |s| s.places[3].y = 1_023),
-        layout(3, "y 1,024", |s| s.places[3].y = 1_024),
-        layout(0, "next cell", |s| s.places[3] = Place::at(0, 1)),
-        layout(3, "shared cell", |s| s.places[3] = Place::at(0, 0)),
-        layout(3, "neighbours share a cell", |s| s.places[2] = s.places[1]),
-        layout(0, "x and y exchanged", |s| s.places[3] = Place::at(4, 3)),
-    ]
 }
 
 fn stage_edges() -> Vec<Edge> {
@@ -69,7 +53,7 @@ fn stage_order_edges() -> Vec<Edge> {
 /// Ten more places, and so many stages that leave place 3.
 fn star(sheet: &mut Sheet, leaving: u32) {
     for i in 0..10 {
-        sheet.places.push(Place::at(100 + i, 100));
+        sheet.places.push(place([100 + i, 100, 9_000 + i]));
     }
     sheet.stages.pop();
     for head in 0..leaving {
@@ -151,7 +135,8 @@ fn office_edges() -> Vec<Edge> {
 }
 
 fn two_at_once() -> Vec<Edge> {
-    let place = |s: &mut Sheet| s.places[3].y = 1_024;
+    let place = |s: &mut Sheet| s.places[3].cell.y = 1_024;
+    let twice = |s: &mut Sheet| s.places[3].gazetteer = 101;
     let a_stage = |s: &mut Sheet| s.stages[5].length = 0;
     let a_block = |s: &mut Sheet| s.blocks[0].low = 117;
     let office = |s: &mut Sheet| s.offices[0] = 4;
@@ -162,16 +147,12 @@ fn two_at_once() -> Vec<Edge> {
         layout(4, "bad stage, bad block", a_stage).and(a_block),
         layout(4, "bad stage, bad office", a_stage).and(office),
         layout(5, "bad block, bad office", a_block).and(office),
+        layout(3, "number 0, bad stage", |s| s.places[3].gazetteer = 0).and(a_stage),
+        layout(3, "a number twice, bad stage", twice).and(a_stage),
+        layout(3, "a number twice, bad block", twice).and(a_block),
+        layout(3, "a number twice, bad office", twice).and(office),
+        layout(3, "a number twice, untrue ratio", twice).and(|s| s.blocks[5].low = 65),
         layout(3, "all four bad", place).and(a_stage).and(a_block).and(office),
         layout(6, "bad office, untrue ratio", office).and(|s| s.blocks[5].low = 65),
     ]
-}
-
-impl Edge {
-    /// One more change on top.
-    fn and(self, change: impl FnOnce(&mut Sheet)) -> Edge {
-        let mut sheet = Sheet::from_bytes(&self.sheet).expect("sections are whole");
-        change(&mut sheet);
-        Edge { sheet: sheet.to_bytes(), ..self }
-    }
 }

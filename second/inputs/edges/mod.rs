@@ -4,12 +4,14 @@
 mod bytes;
 pub mod edge;
 mod layout;
+mod places;
 mod truth;
 
 use edge::Edge;
 
 pub fn all() -> Vec<Edge> {
-    let mut edges = layout::all();
+    let mut edges = places::all();
+    edges.extend(layout::all());
     edges.extend(bytes::all());
     edges.extend(truth::all());
     edges

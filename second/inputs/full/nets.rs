@@ -1,7 +1,8 @@
 //! The places and stages of a full-size sheet, by its kind.
 
+use crate::inputs::draw::gazetteer::{numbered, Numbers};
 use crate::inputs::draw::net::{Drawing, Lengths};
-use crate::inputs::draw::places::{in_rows, places, Shape};
+use crate::inputs::draw::places::{cells, in_rows, Shape};
 use crate::inputs::full::kind::Kind;
 use crate::inputs::rng::Rng;
 use crate::rules::limits::LEAVING_MOST;
@@ -12,10 +13,11 @@ use crate::rules::sheet::{Place, Stage};
 const ROADS_MOST: usize = 5;
 
 pub fn net(rng: &mut Rng, kind: Kind, count: usize) -> (Vec<Place>, Vec<Stage>) {
-    let (places, side) = match kind {
+    let (cells, side) = match kind {
         Kind::Grid => in_rows(rng, count),
-        _ => (places(rng, Shape::Spread, count), 0),
+        _ => (cells(rng, Shape::Spread, count), 0),
     };
+    let places = numbered(&mut rng.aside(), &cells, Numbers::Spread);
     let lengths = match kind {
         Kind::Near => Lengths::OverCrow(5),
         Kind::Grid => Lengths::UpTo(1_000),
@@ -41,7 +43,7 @@ fn join(rng: &mut Rng, drawing: &mut Drawing, u: usize, v: usize) {
 /// The other places, the nearest first.
 fn by_nearness(places: &[Place], u: usize) -> Vec<usize> {
     let mut others: Vec<usize> = (0..places.len()).filter(|&v| v != u).collect();
-    others.sort_by_cached_key(|&v| crow(places[u], places[v]).0);
+    others.sort_by_cached_key(|&v| crow(places[u].cell, places[v].cell).0);
     others
 }
 
@@ -63,7 +65,7 @@ fn span(rng: &mut Rng, drawing: &mut Drawing, most: usize) {
     let count = drawing.places.len();
     let mut pairs: Vec<(u64, usize, usize)> = Vec::new();
     for u in 0..count {
-        pairs.extend((u + 1..count).map(|v| (crow(drawing.places[u], drawing.places[v]).0, u, v)));
+        pairs.extend((u + 1..count).map(|v| (crow(drawing.places[u].cell, drawing.places[v].cell).0, u, v)));
     }
     pairs.sort();
     let mut part: Vec<usize> = (0..count).collect();

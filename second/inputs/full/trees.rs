@@ -49,8 +49,8 @@ impl Ground<'_> {
     fn of(sheet: &Sheet) -> Ground<'_> {
         let map = Map::of(sheet);
         let mut order: Vec<(u32, usize)> = Vec::new();
-        for (v, &place) in sheet.places.iter().enumerate() {
-            order.push((code_of(place) as u32, v));
+        for (v, place) in sheet.places.iter().enumerate() {
+            order.push((code_of(place.cell) as u32, v));
         }
         order.sort();
         let distances: Vec<Vec<u64>> = (0..map.places()).map(|u| distances_from(&map, u)).collect();

@@ -4,7 +4,7 @@ use crate::inputs::longest::case::{listed, refused, Case, Question};
 use crate::inputs::longest::maps::*;
 use crate::inputs::rng::Rng;
 use crate::rules::refusal::{UNREACHED, WALK_EMPTY, WALK_TOO_LONG};
-use crate::rules::sheet::{Place, Sheet};
+use crate::rules::sheet::{Cell, Sheet};
 
 pub fn all(rng: &mut Rng) -> Vec<Case> {
     let mut cases = vec![
@@ -35,7 +35,7 @@ fn round_and_round(last: u32) -> Vec<Question> {
 /// would come there a second time is the one for which 16 is due; without 16 it would be refused by 18.
 fn too_long_before_empty() -> Case {
     let mut map = ring_past_the_last(crowd());
-    map.places[1] = Place::at(31, 31);
+    map.places[1].cell = Cell::at(31, 31);
     map.blocks[1].low = u32::MAX - 1;
     astray("16 before 18", map, vec![refused(&[1_023, 1_023], (0, 1), WALK_TOO_LONG)])
 }

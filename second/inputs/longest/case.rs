@@ -1,5 +1,6 @@
 //! What a case of the longest walks is: a map, and what is due on it by the paper.
 
+use crate::inputs::longest::maps::gazetteer;
 use crate::rules::limits::ANSWER_WORDS;
 use crate::rules::refusal::Number;
 use crate::rules::sheet::Sheet;
@@ -24,7 +25,7 @@ pub struct Question {
 /// The list and the total of refinements, or the refusal.
 pub type Due = Result<(Vec<Record>, u64), Number>;
 
-/// Number, low end, high end, stages.
+/// Number, low end, high end, stages, gazetteer number.
 pub type Record = [u64; ANSWER_WORDS];
 
 impl Case {
@@ -33,9 +34,13 @@ impl Case {
     }
 }
 
-/// A question for as many offices as this list has.
-pub fn listed(offices: &[u32], q: u32, list: &[Record], total: u64) -> Question {
-    Question { offices: offices.to_vec(), q, k: list.len() as u32, due: Ok((list.to_vec(), total)) }
+/// A question for as many offices as this list has; what each place's gazetteer number is, the maps say.
+pub fn listed(offices: &[u32], q: u32, list: &[[u64; 4]], total: u64) -> Question {
+    let whole = |&[number, low, high, stages]: &[u64; 4]| {
+        [number, low, high, stages, u64::from(gazetteer(offices[number as usize]))]
+    };
+    let list: Vec<Record> = list.iter().map(whole).collect();
+    Question { offices: offices.to_vec(), q, k: list.len() as u32, due: Ok((list, total)) }
 }
 
 pub fn refused(offices: &[u32], (q, k): (u32, u32), number: Number) -> Question {

@@ -1,14 +1,15 @@
 -- `trials::bytes_of` meets its contract: it is safe, and ends.
 use Prim.Native.Nat.{_-_, _≤_}
 use borrow.Author.Needs.{needs}
+use Rattle.trials.proofs.Sizes.{markedWords}
 use Rattle.trials.proofs.bytes_of.Statement.{statement}
 use Rattle.trials.proofs.bytes_of.Tie as tie
 
 abbrev Inv-loop : tie.InvT-loop
-Inv-loop words bytes₀ i₀ bytes i = (i ≤ 75)
+Inv-loop words bytes₀ i₀ bytes i = (i ≤ markedWords)
 
 abbrev μ-loop : tie.MeasureT-loop
-μ-loop words bytes₀ i₀ bytes i = 75 - i
+μ-loop words bytes₀ i₀ bytes i = markedWords - i
 
 loop-holds : tie.Need-loop-holds Inv-loop μ-loop
 loop-holds c = search needs

@@ -1,14 +1,15 @@
 -- `trials::front` meets its contract: it is safe, and ends.
 use Prim.Native.Nat.{_-_, _≤_}
 use borrow.Author.Needs.{needs}
+use Rattle.trials.proofs.Sizes.{frontBytes}
 use Rattle.trials.proofs.front.Statement.{statement}
 use Rattle.trials.proofs.front.Tie as tie
 
 abbrev Inv-loop : tie.InvT-loop
-Inv-loop sheet bytes₀ i₀ bytes i = (i ≤ 292)
+Inv-loop sheet bytes₀ i₀ bytes i = (i ≤ frontBytes)
 
 abbrev μ-loop : tie.MeasureT-loop
-μ-loop sheet bytes₀ i₀ bytes i = 292 - i
+μ-loop sheet bytes₀ i₀ bytes i = frontBytes - i
 
 loop-holds : tie.Need-loop-holds Inv-loop μ-loop
 loop-holds c = search needs

@@ -1,14 +1,15 @@
 -- `trials::without_last_block` meets its contract: it is safe, and ends.
 use Prim.Native.Nat.{_-_, _≤_}
 use borrow.Author.Needs.{needs}
+use Rattle.trials.proofs.Sizes.{shortBytes}
 use Rattle.trials.proofs.without_last_block.Statement.{statement}
 use Rattle.trials.proofs.without_last_block.Tie as tie
 
 abbrev Inv-loop : tie.InvT-loop
-Inv-loop sheet bytes₀ i₀ bytes i = (i ≤ 276)
+Inv-loop sheet bytes₀ i₀ bytes i = (i ≤ shortBytes)
 
 abbrev μ-loop : tie.MeasureT-loop
-μ-loop sheet bytes₀ i₀ bytes i = 276 - i
+μ-loop sheet bytes₀ i₀ bytes i = shortBytes - i
 
 with-word-requires : tie.Need-with-word-requires Inv-loop μ-loop
 with-word-requires c κs = search needs

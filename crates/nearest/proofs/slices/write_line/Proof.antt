@@ -1,9 +1,13 @@
 -- `nearest::slices::write_line` meets its contract.
+use mathlib.Core.Path.{subst}
+use Prim.Native.Nat.{ℕ, _*_}
 use native.Mathlib.Omega.{arith}
 use borrow.Author.Needs.{needs}
 use lib.ListN.{length-set}
-use Rattle.quadtree.specs.Walks.{trailOf}
-use Rattle.paper.specs.Listing.{lineOf}
+use Rattle.paper.specs.Sizes.{lineWords}
+use Rattle.paper.specs.Listing.{Line}
+use Rattle.paper.specs.Reply.{lineOut}
+use Rattle.nearest.specs.Going.{Wrote}
 use Rattle.nearest.proofs.Stores.{puts, wrote-puts}
 use Rattle.nearest.proofs.slices.write_line.Statement.{statement}
 use Rattle.nearest.proofs.slices.write_line.Tie as tie
@@ -44,12 +48,24 @@ mul-answer-4 c = search needs
 slice-write-answer-4 : tie.Need-slice-write-answer-4
 slice-write-answer-4 c = simp length-set (omega arith)
 
+add-answer-4 : tie.Need-add-answer-4
+add-answer-4 c = search needs
+
+mul-answer-5 : tie.Need-mul-answer-5
+mul-answer-5 c = search needs
+
+slice-write-answer-5 : tie.Need-slice-write-answer-5
+slice-write-answer-5 c = simp length-set (omega arith)
+
 same-length : tie.Need-same-length
 same-length c = search needs
 
 returns : tie.Need-returns
 unfolding puts
-returns c x = wrote-puts (c .args .answer .now) (c .args .r) (lineOf x (c .args .i) (trailOf (c .args .t))) (c .pre)
+returns c m x e =
+    let a = c .args in
+    let line : ℕ → Line = λ g. record { number = a .i; low = a .t .low .0; high = a .t .high .0; stages = a .t .stages; gazetteer = g } in
+    subst (λ (g : ℕ). Wrote (a .r) (line g) (a .answer .now) (puts (a .answer .now) (lineWords * a .r) 0 (lineOut (line (a .gazetteer))))) e (wrote-puts (a .answer .now) (a .r) (line (a .gazetteer)) (c .pre))
 
 pub write-line-spec : {M : Type 1} → statement M
 write-line-spec =
@@ -67,5 +83,8 @@ write-line-spec =
     add-answer-3
     mul-answer-4
     slice-write-answer-4
+    add-answer-4
+    mul-answer-5
+    slice-write-answer-5
     same-length
     returns)

@@ -1,5 +1,5 @@
 -- `nearest::walk::list_nearest` meets its contract. The invariant: on any map that has the ground and the book, the listing is under way.
-use mathlib.Core.Path.{_≡_, sym, subst, _∙_}
+use mathlib.Core.Path.{_≡_, refl, sym, subst, _∙_}
 use mathlib.Core.List.{List}
 use Prim.Native.Nat.{ℕ, _+_, _-_, _*_, _≤_, _<_}
 use native.Mathlib.Omega.{arith}
@@ -13,7 +13,9 @@ use Rattle.paper.specs.Listing.{Slot, State, begin, run, enough}
 use Rattle.sheet.specs.Ground.{Charted}
 use Rattle.sheet.proofs.Grounds.{roll-count}
 use Rattle.quadtree.proofs.Words.{standing}
+use Rattle.paper.specs.declared.Trail.{Trail}
 use Rattle.nearest.specs.declared.walk.Moved.{Moved}
+use Rattle.nearest.specs.declared.walk.Moved.the-variants as moved
 use Rattle.nearest.specs.Working.{Shown, Beyond}
 use Rattle.nearest.specs.Going.{Fresh, Waiting, Stepped}
 use Rattle.nearest.proofs.Advance.{shown-as}
@@ -39,7 +41,7 @@ abbrev around : tie.After-advance Inv-loop μ-loop → tie.At-loop Inv-loop μ-l
 around c = c .before .before .before
 
 -- the step that was made, from where its line is written, where the refinement is counted, and where it was refused
-abbrev listing : tie.After-write-line Inv-loop μ-loop → tie.After-advance Inv-loop μ-loop
+abbrev listing : tie.After-list-office Inv-loop μ-loop → tie.After-advance Inv-loop μ-loop
 listing c = c .before .before .before .before .before .before .before
 
 abbrev refining : tie.After-enum-told Inv-loop μ-loop → tie.After-advance Inv-loop μ-loop
@@ -87,6 +89,14 @@ module _ (x : tie.After-advance Inv-loop μ-loop) where
       → Stepped m (outward (officesIn (s .args .list .now)) q) st (x .advance .last .1 .1 .1 .1 .1 .1 .0) r
   made r e m q C st S = subst (Stepped m (outward (officesIn (s .args .list .now)) q) st (x .advance .last .1 .1 .1 .1 .1 .1 .0)) e (x .advance .ensures .1 m q C st S)
 
+  -- who is listed is one of the offices
+  one-of : (i : ℕ) (t : Trail) → x .advance .result ≡ moved.Listed i t → i < s .args .counts .offices
+  one-of i t e =
+      let C = s .pre .1 .0 .charted in
+      let B = s .pre .1 .1 .1 .0 in
+      let Q = around x .loop .inv .1 _ 0 C (B .slots) (B .shown) (B .fresh) in
+      omega (arith, made _ e _ 0 C (Q .going .state) (progress-shown Q _ _ (places s _ C) (offices s)) .here, offices s)
+
 loop-holds : tie.Need-loop-holds Inv-loop μ-loop
 loop-holds c =
     let s = c .before .before .before .before .before .before .before in
@@ -101,11 +111,12 @@ advance-requires c κs =
 enum-known-moved : tie.Need-enum-known-moved Inv-loop μ-loop
 enum-known-moved c = search needs
 
-write-line-requires : tie.Need-write-line-requires Inv-loop μ-loop
-write-line-requires c κs =
+list-office-requires : tie.Need-list-office-requires Inv-loop μ-loop
+list-office-requires c κs =
     let x = c .before .before .before .before .before .before in
     let l = around x in
-    omega (arith, under l .long, x .before .before .loop-test .taken, start l .pre .1 .1 .1 .1 .1)
+    let p = start l .pre in
+    (p .0, (p .1 .1 .0, (one-of x _ _ (c .before .before .moved .given .1), omega (arith, under l .long, x .before .before .loop-test .taken, p .1 .1 .1 .1 .1))))
 
 add-listed : tie.Need-add-listed Inv-loop μ-loop
 add-listed c =
@@ -125,7 +136,7 @@ loop-again c =
       beyond-then (l .loop .inv .0) (x .advance .ensures .0),
       λ m q C ss S F. let Q = l .loop .inv .1 m q C ss S F in
           let S′ = progress-shown Q _ _ (places s m C) (offices s) in
-          progress-listed Q (x .before .before .loop-test .taken) (omega (arith, offices s, s .pre .1 .1 .1 .1 .0)) _ _ _ _ (made x _ (w .before .before .before .moved .given .1) m q C _ S′) (w .write-line .ensures (outward (officesIn (s .args .list .now)) q)),
+          progress-listed Q (x .before .before .loop-test .taken) (omega (arith, offices s, s .pre .1 .1 .1 .1 .0)) _ _ _ _ (made x _ (w .before .before .before .moved .given .1) m q C _ S′) (w .list-office .ensures m (outward (officesIn (s .args .list .now)) q) (C .ground) refl),
     )
 
 enum-told : tie.Need-enum-told Inv-loop μ-loop
@@ -188,7 +199,7 @@ list-nearest-spec =
     loop-holds
     advance-requires
     enum-known-moved
-    write-line-requires
+    list-office-requires
     add-listed
     loop-less
     loop-again

@@ -8,8 +8,8 @@ use borrow.Author.Tests.{lt-ltb}
 use borrow.Author.Needs.{needs}
 use Rattle.paper.specs.Test.{every}
 use Rattle.paper.specs.Sheet.{word, officesIn}
+use Rattle.paper.proofs.Test.{every-more}
 use Rattle.sheet.proofs.Passes.{office-fails, offices-pass}
-use Rattle.sheet.proofs.Placed.{every-more}
 use Rattle.sheet.proofs.offices.offices_hold.Statement.{statement}
 use Rattle.sheet.proofs.offices.offices_hold.Tie as tie
 

@@ -1,114 +1,113 @@
--- `sheet::places::places_hold` meets its contract. The invariant is `Placed`: the first i places hold, and their cells are kept.
-use mathlib.Core.Path.{_≡_, refl, sym, _∙_}
-use Prim.Native.Nat.{_+_, _-_, _*_, _≤_, _<_}
+-- `sheet::places::places_hold` meets its contract: each test of the paper's rule by the function that makes it.
+use mathlib.Core.Path.{_≡_, sym, _∙_}
+use mathlib.Core.Bool.{Bool, true}
+use mathlib.Core.List.{List}
+use Prim.Native.Nat.{ℕ}
 use native.Mathlib.Omega.{arith}
-use lib.ListN.{length, length-set}
+use lib.Dec.{eqb}
+use lib.ListN.{length, getD, length-replicate}
 use borrow.Author.Tests.{not-true, not-false}
 use borrow.Author.Needs.{needs}
-use Rattle.paper.specs.Sizes.{mostPlaces, gridSide}
+use Rattle.paper.specs.Sizes.{mostPlaces}
+use Rattle.paper.specs.Test.{both, apart}
 use Rattle.paper.specs.Sheet.{mapOf}
-use Rattle.sheet.proofs.Placed.{Kept, Placed, placed-start, placed-step, placed-end, off-x, off-y, taken}
+use Rattle.paper.specs.Layout.{placesHold}
+use Rattle.paper.proofs.Test.{both-false-left, both-so}
+use Rattle.sheet.proofs.Placed.{places-fail, places-by}
 use Rattle.sheet.proofs.Room.{Room, room}
 use Rattle.sheet.proofs.places.places_hold.Statement.{statement}
 use Rattle.sheet.proofs.places.places_hold.Tie as tie
 
-abbrev Inv-loop : tie.InvT-loop
-Inv-loop sheet places cells₀ i₀ cells i = (i ≤ places) × (length cells ≡ mostPlaces) × Placed (mapOf sheet) i cells
+-- where the function began, from the places that were taken; and these, from where they hold
+abbrev begin : tie.After-take-places → tie.Start
+begin d = d .before .before .before .before
 
-abbrev μ-loop : tie.MeasureT-loop
-μ-loop sheet places cells₀ i₀ cells i = places - i
-
--- the places, each by the one before it
-abbrev begin : tie.At-loop Inv-loop μ-loop → tie.Start Inv-loop μ-loop
-begin l = l .before .before
-
-abbrev around : tie.After-cell-of Inv-loop μ-loop → tie.At-loop Inv-loop μ-loop
-around c = c .before .before
-
-abbrev read : tie.Else1 Inv-loop μ-loop → tie.After-cell-of Inv-loop μ-loop
-read c = c .before .before
-
-abbrev keyed : tie.After-cells Inv-loop μ-loop → tie.After-cell-of Inv-loop μ-loop
-keyed c = read (c .before .before .before .before .before)
+abbrev held : tie.Else1 → tie.After-take-places
+held c = c .before .before .before
 
 -- the counts as numbers of the map, and the sheet's length by them
-facts : (l : tie.At-loop Inv-loop μ-loop) → Room (begin l .args .sheet .now) (begin l .args .counts)
-facts l = room _ _ (begin l .pre)
+facts : (s : tie.Start) → Room (s .args .sheet .now) (s .args .counts)
+facts s = room _ _ (s .pre)
 
--- the place that was read is one of the map's, and has a word among the cells
-more : (c : tie.After-cell-of Inv-loop μ-loop) → let l = around c in (l .loop .i < mapOf (begin l .args .sheet .now) .places) × (l .loop .i < mostPlaces)
-more c = omega (arith, facts (around c))
+-- both slices are as long as there may be places
+module _ (d : tie.After-take-places) where
+  abbrev cells : List ℕ
+  cells = d .take-places .last .1 .1 .0
 
--- as one number
-kept : (c : tie.After-cells Inv-loop μ-loop) → let l = around (keyed c) in let p = keyed c .cell-of .result in Kept (mapOf (begin l .args .sheet .now)) (l .loop .i) (p .x * gridSide + p .y)
-kept c = omega (arith, keyed c .cell-of .ensures)
+  abbrev numbers : List ℕ
+  numbers = d .take-places .last .1 .1 .1 .0
 
-loop-holds : tie.Need-loop-holds Inv-loop μ-loop
-loop-holds c = (omega arith, refl, placed-start _ _)
+  long : (length cells ≡ mostPlaces) × (length numbers ≡ mostPlaces)
+  long = (d .take-places .kept .1 .1 .0 ∙ length-replicate {A = ℕ} mostPlaces 0, d .take-places .kept .1 .1 .1 .0 ∙ length-replicate {A = ℕ} mostPlaces 0)
 
-cell-of-requires : tie.Need-cell-of-requires Inv-loop μ-loop
-cell-of-requires c κs = omega (arith, facts (c .before))
+-- what the paper's rule comes to, once each place holds
+module _ (c : tie.Else1) where
+  abbrev here : tie.After-take-places
+  here = held c
 
-returns : tie.Need-returns Inv-loop μ-loop
-returns c = let d = c .before .before in off-x _ _ (more d .0) (omega (arith, d .cell-of .ensures))
+  abbrev places : ℕ
+  places = begin here .args .counts .places
 
-returns-2 : tie.Need-returns-2 Inv-loop μ-loop
-returns-2 c = let d = read (c .before .before) in off-y _ _ (more d .0) (omega (arith, d .cell-of .ensures)) (omega (arith, d .cell-of .ensures))
+  abbrev same : List ℕ → ℕ → ℕ → Bool
+  same words j i = eqb (getD words j 0) (getD words i 0)
 
-mul-cell : tie.Need-mul-cell Inv-loop μ-loop
-mul-cell c = search needs
+  by-words : both (apart places (same (cells here))) (apart places (same (numbers here))) ≡ placesHold (mapOf (begin here .args .sheet .now))
+  by-words =
+      let e = not-false _ (c .if1 .left) in
+      places-by _ places (cells here) (numbers here) (facts (begin here) .places) (sym (here .take-places .ensures .0) ∙ e) (here .take-places .ensures .1 e)
 
-add-cell : tie.Need-add-cell Inv-loop μ-loop
-add-cell c = search needs
+slice-aggregate-take-places : tie.Need-slice-aggregate-take-places
+slice-aggregate-take-places c = search needs
 
-slice-aggregate-is-free : tie.Need-slice-aggregate-is-free Inv-loop μ-loop
-slice-aggregate-is-free c = search needs
+slice-aggregate-take-places-2 : tie.Need-slice-aggregate-take-places-2
+slice-aggregate-take-places-2 c = search needs
 
-is-free-requires : tie.Need-is-free-requires Inv-loop μ-loop
-is-free-requires c κs = omega (arith, more (keyed c))
+take-places-requires : tie.Need-take-places-requires
+take-places-requires c κs =
+    let s = c .before .before .before in
+    let zeros = length-replicate {A = ℕ} mostPlaces 0 in
+    (s .pre, (omega (arith, zeros, facts s .within .places), omega (arith, zeros, facts s .within .places)))
 
-returns-3 : tie.Need-returns-3 Inv-loop μ-loop
-returns-3 c = let k = c .before .before in taken _ _ (more (keyed k) .0) (around (keyed k) .loop .inv .2) (kept k) (sym (c .before .is-free .ensures) ∙ not-true _ (c .if3 .taken))
+returns : tie.Need-returns
+returns c =
+    let d = c .before .before .before in
+    places-fail _ (begin d .args .counts .places) (facts (begin d) .places) (sym (d .take-places .ensures .0) ∙ not-true _ (c .if1 .taken))
 
-mul-cells : tie.Need-mul-cells Inv-loop μ-loop
-mul-cells c = omega (arith, more (keyed (c .before .before)))
+slice-aggregate-all-differ : tie.Need-slice-aggregate-all-differ
+slice-aggregate-all-differ c = search needs
 
-array-write-cells : tie.Need-array-write-cells Inv-loop μ-loop
-array-write-cells c = omega (arith, more (keyed (c .before .before)))
+all-differ-requires : tie.Need-all-differ-requires
+all-differ-requires c κs = let d = held (c .before) in omega (arith, long d, facts (begin d) .within .places)
 
-add-i : tie.Need-add-i Inv-loop μ-loop
-add-i c = omega (arith, more (keyed (c .before .before)))
+returns-2 : tie.Need-returns-2
+returns-2 c =
+    let e = c .before .before .before in
+    sym (both-false-left _ (apart (places e) (same e (numbers (held e)))) (sym (c .before .all-differ .ensures) ∙ not-true _ (c .if2 .taken))) ∙ by-words e
 
-loop-less : tie.Need-loop-less Inv-loop μ-loop
-loop-less c = omega arith
+slice-aggregate-all-differ-2 : tie.Need-slice-aggregate-all-differ-2
+slice-aggregate-all-differ-2 c = search needs
 
-loop-again : tie.Need-loop-again Inv-loop μ-loop
-loop-again c =
-    let k = c .before .before in
-    let l = around (keyed k) .loop in
-    (omega arith, simp length-set (l .inv .1), placed-step _ _ (more (keyed k) .0) (l .inv .2) (kept k) (sym (c .before .is-free .ensures) ∙ not-false _ (c .if3 .left)) (omega (arith, more (keyed k))))
+all-differ-requires-2 : tie.Need-all-differ-requires-2
+all-differ-requires-2 c κs = let d = held (c .before .before .before .before) in omega (arith, long d, facts (begin d) .within .places)
 
-returns-4 : tie.Need-returns-4 Inv-loop μ-loop
-returns-4 c = let l = c .before in placed-end (l .loop .inv .2) (omega (arith, l .loop .inv .0, facts l))
+returns-3 : tie.Need-returns-3
+returns-3 c =
+    let f = c .before .before in
+    let e = f .before .before .before in
+    let first : apart (places e) (same e (cells (held e))) ≡ true = sym (f .before .all-differ .ensures) ∙ not-false _ (f .if2 .left) in
+    c .all-differ2 .ensures ∙ sym (both-so _ first) ∙ by-words e
 
 pub places-hold-spec : {M : Type 1} → statement M
 places-hold-spec =
     tie.close
     (tie.spec
-    Inv-loop
-    μ-loop
-    loop-holds
-    cell-of-requires
+    slice-aggregate-take-places
+    slice-aggregate-take-places-2
+    take-places-requires
     returns
+    slice-aggregate-all-differ
+    all-differ-requires
     returns-2
-    mul-cell
-    add-cell
-    slice-aggregate-is-free
-    is-free-requires
-    returns-3
-    mul-cells
-    array-write-cells
-    add-i
-    loop-less
-    loop-again
-    returns-4)
+    slice-aggregate-all-differ-2
+    all-differ-requires-2
+    returns-3)

@@ -8,9 +8,8 @@ use borrow.Author.Needs.{needs}
 use lib.Dec.{eqb}
 use lib.ListN.{getD}
 use Rattle.paper.specs.Test.{every}
-use Rattle.paper.proofs.Test.{every-false}
+use Rattle.paper.proofs.Test.{every-false, every-more}
 use Rattle.truth.specs.Table.{used, allUsed}
-use Rattle.truth.proofs.Scans.{every-more}
 use Rattle.truth.proofs.slices.all_marked.Statement.{statement}
 use Rattle.truth.proofs.slices.all_marked.Tie as tie
 
