@@ -70,9 +70,9 @@ struct refusal {
     const char *remedy;
 };
 
-#define SEND_BACK "Send the sheet back to the atlas house, naming the number."
-#define AS_BYTES " A sheet written as text must be turned into bytes first: ./sheet bytes."
 #define OLD_FORM " A sheet from before places had gazetteer numbers is of another form: ask for its new issue."
+#define SEND_BACK "Send the sheet back to the atlas house, naming the number." OLD_FORM
+#define AS_BYTES " A sheet written as text must be turned into bytes first: ./sheet bytes."
 #define NEVER_HERE "Never met here, where enough is lent and the sheet is checked first: the program is at fault, and not the sheet."
 
 /* The meanings are those of docs/REFUSALS.md. */
@@ -84,11 +84,11 @@ static const struct refusal refusals[] = {
     [ATLAS_BAD_COUNT] =
         {"A section has too few or too many records: a sheet has 1 to 1,024 places, up to 8,192 stages, up to 262,144 blocks and up"
          " to 4,096 offices.",
-         SEND_BACK AS_BYTES OLD_FORM},
+         SEND_BACK AS_BYTES},
     [ATLAS_BAD_PLACES] =
         {"The places break a rule: x or y is above 1,023, or two places share a cell, or a gazetteer number is 0, or two places have"
          " the same one.",
-         SEND_BACK OLD_FORM},
+         SEND_BACK},
     [ATLAS_BAD_STAGES] =
         {"The stages break a rule: a stage names a place that is not on the sheet, or begins and ends at one place, or has a length"
          " outside 1 to 65,535; or the stages do not strictly ascend by tail and head; or more than 8 leave a place.",

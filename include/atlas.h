@@ -19,9 +19,10 @@
    A gazetteer number is not 0, and different for every place of a sheet. Stages, blocks, offices and questions name a place by its place
    number, which shifts with each sheet; a listed office comes with the gazetteer number of its place.
 
-   Sheets from before places had gazetteer numbers are of another form and are refused, mostly by 1 or 2: their new issue is needed. A
-   host that was compiled with the header of that time must be compiled again: it lends too little and is refused by 9, or, where it
-   lends more than is needed, takes lines of five words for lines of four.
+   Sheets from before places had gazetteer numbers are of another form, and say nowhere that they are. Nearly all are refused, mostly by
+   1 or 2; a few small ones are read as another sheet. So keep none of them in use: their new issue is needed. A host that was compiled
+   with the header of that time must be compiled again: it lends too little and is refused by 9, or, where it lends more than is needed,
+   takes lines of five words for lines of four.
 
    A ratio is a road length in furlongs over a crow distance, in 4,096ths. The crow distance of two places that are dx apart in x and dy
    in y is the largest whole number whose square is at most 4,096 * (dx^2 + dy^2): it counts in 64ths of a cell, and between different

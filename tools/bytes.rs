@@ -26,12 +26,20 @@ pub fn read(bytes: &[u8]) -> Result<Sheet, String> {
     if !length.is_multiple_of(WORD_BYTES) {
         return Err(format!("{length} bytes long, which is no multiple of {WORD_BYTES}"));
     }
-    let words: Vec<u32> =
-        bytes.chunks_exact(WORD_BYTES).map(|b| u32::from_le_bytes([b[0], b[1], b[2], b[3]])).collect();
+    let words = words_of(bytes);
     split(&words, SECTIONS[PLACES].fields.len()).map_err(|fault| match split(&words, OLD_PLACE_WORDS) {
         Ok(_) => format!("{fault}; {OLD_FORM}"),
         Err(_) => fault,
     })
+}
+
+/// Whether the bytes are whole with two words to a place too: then they may be an old sheet, and are read as another.
+pub fn may_be_old(bytes: &[u8]) -> bool {
+    read(bytes).is_ok() && split(&words_of(bytes), OLD_PLACE_WORDS).is_ok()
+}
+
+fn words_of(bytes: &[u8]) -> Vec<u32> {
+    bytes.chunks_exact(WORD_BYTES).map(|b| u32::from_le_bytes([b[0], b[1], b[2], b[3]])).collect()
 }
 
 /// The sections of a sheet whose places have so many words.

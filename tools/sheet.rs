@@ -39,6 +39,9 @@ const BAD_USAGE: u8 = 2;
 const NOT_LOOKED_UP: &str = "a gazetteer number cannot be looked up in a sheet that is not whole \
     (asked with a place number, the program tells by what number it refuses the sheet): ";
 
+const MAY_BE_OLD: &str = "take care: whole with three words to a place, and with two as well; if it is from before places had \
+    gazetteer numbers it is read as another sheet, and the atlas house has a new issue of it";
+
 /// The exit status of a refusal told in words.
 const REFUSED: u8 = 1;
 
@@ -65,7 +68,7 @@ fn run(arguments: &[OsString]) -> Result<u8, Failure> {
             Err(Failure(BAD_USAGE, format!("{} would be written over itself: name another file", file.display())))
         }
         ("bytes", &[file, ref out @ ..]) if out.len() < 2 => put(out, &bytes::write(&from_text(file)?)),
-        ("text", &[file, ref out @ ..]) if out.len() < 2 => put(out, text::write(&from_bytes(file)?).as_bytes()),
+        ("text", &[file, ref out @ ..]) if out.len() < 2 => put(out, text::write(&from_bytes(file, &get_warned(file)?)?).as_bytes()),
         ("input", &[file, q, k]) => put(&[], &input(file, q, k)?),
         ("words", &[file, q]) => answer(file, q),
         _ => Err(Failure(BAD_USAGE, USAGE.to_string())),
@@ -93,8 +96,17 @@ fn from_text(file: &Path) -> Result<Sheet, Failure> {
         .map_err(|(line, fault)| Failure(BAD_FILE, format!("{}, line {line}: {fault}", file.display())))
 }
 
-fn from_bytes(file: &Path) -> Result<Sheet, Failure> {
-    bytes::read(&get(file)?).map_err(|fault| Failure(BAD_FILE, format!("{}: {fault}", file.display())))
+/// The bytes of a sheet, with a warning where they may be those of an old one.
+fn get_warned(file: &Path) -> Result<Vec<u8>, Failure> {
+    let content = get(file)?;
+    if bytes::may_be_old(&content) {
+        eprintln!("{}: {MAY_BE_OLD}", file.display());
+    }
+    Ok(content)
+}
+
+fn from_bytes(file: &Path, content: &[u8]) -> Result<Sheet, Failure> {
+    bytes::read(content).map_err(|fault| Failure(BAD_FILE, format!("{}: {fault}", file.display())))
 }
 
 fn is_text(file: &Path) -> bool {
@@ -119,7 +131,7 @@ fn place(q: Asked, sheet: &[u8]) -> Result<u32, Failure> {
 fn input(file: &Path, q: &Path, k: &Path) -> Result<Vec<u8>, Failure> {
     let q = asked::read(&q.to_string_lossy()).map_err(bad("Q"))?;
     let k = number(&k.to_string_lossy()).map_err(bad("K"))?;
-    let sheet = if is_text(file) { bytes::write(&from_text(file)?) } else { get(file)? };
+    let sheet = if is_text(file) { bytes::write(&from_text(file)?) } else { get_warned(file)? };
     let mut input = bytes::bytes_of(&[place(q, &sheet)?, k]);
     input.extend(sheet);
     Ok(input)
@@ -134,7 +146,7 @@ fn answer(file: &Path, q: &Path) -> Result<u8, Failure> {
     let (text, status) = match words::read(&printed) {
         Some(words::Answer::Refused(number)) => (words::refused(number), REFUSED),
         Some(words::Answer::Listed { lines, refinements }) => {
-            let sheet = if is_text(file) { from_text(file)? } else { from_bytes(file)? };
+            let sheet = if is_text(file) { from_text(file)? } else { from_bytes(file, &get(file)?)? };
             let q = q.place(&sheet).map_err(bad("Q"))?;
             (words::listed(&sheet, q, &lines, refinements), 0)
         }

@@ -116,8 +116,9 @@ static unsigned int ask_in(const unsigned char *sheet, size_t bytes, size_t answ
 static void short_answer(const unsigned char *sheet, size_t bytes)
 {
     expect(ask_in(sheet, bytes, 2 * 32) == ATLAS_SHORT_SLICES, "2 offices with 32 bytes each, as before");
+    expect(is_filled(answer, 0, sizeof answer, 170), "9 with 32 bytes each: the answer is untouched");
     expect(ask_in(sheet, bytes, 2 * 40 - 1) == ATLAS_SHORT_SLICES, "2 offices with a byte too few");
-    expect(is_filled(answer, 0, sizeof answer, 170), "9: the answer is untouched");
+    expect(is_filled(answer, 0, sizeof answer, 170), "9 with a byte too few: the answer is untouched");
     expect(ask_in(sheet, bytes, 2 * 40) == ATLAS_LISTED, "2 offices with 40 bytes each");
 }
 

@@ -3,9 +3,8 @@ use Prim.Native.Nat.{ℕ, _+_, _*_, _/_, _%_, _≤_, _<_}
 use native.Mathlib.Omega.{arith}
 use native.Mathlib.Decide.{ℕ-discrete}
 use mathlib.Core.Path.{_≡_, sym, subst}
-use mathlib.Core.Bool.{Bool, true, false, not}
+use mathlib.Core.Bool.{true, false, not}
 use mathlib.Core.List.{List}
-use lib.Dec.{eqb}
 use lib.ListN.{getD, set, length-set, replicate, length-replicate}
 use lib.Seq.{getD-set-same, getD-set-other}
 use borrow.Author.Tests.{eq-eqb, ne-eqb}
@@ -13,7 +12,7 @@ use Rattle.paper.specs.Sizes.{mostPlaces}
 use Rattle.paper.specs.Test.{every, apart}
 use Rattle.paper.proofs.Test.{every-of, every-more, every-false, apart-true, apart-of}
 use Rattle.paper.proofs.Cleared.{zeros}
-use Rattle.differ.specs.Tree.{ways, kid, Leads, here, down, Hung}
+use Rattle.differ.specs.Tree.{same, ways, kid, Leads, here, down, Hung}
 
 -- the ways down that there are stay
 abbrev pub Keeps : List ℕ → List ℕ → Type 0
@@ -41,8 +40,8 @@ module _ {words kids : List ℕ} {i : ℕ} (H : Hung words i kids) where
 
   module _ {digits p : ℕ} (S : Seeking words i kids digits p) where
     -- it is met
-    pub seek-met : getD words p 0 ≡ getD words i 0 → false ≡ every i (λ j. not (eqb (getD words j 0) (getD words i 0)))
-    seek-met e = sym (every-false i (λ j. not (eqb (getD words j 0) (getD words i 0))) p (S .earlier) (rw (eq-eqb (getD words p 0) (getD words i 0) e)))
+    pub seek-met : getD words p 0 ≡ getD words i 0 → false ≡ every i (λ j. not (same words j i))
+    seek-met e = sym (every-false i (λ j. not (same words j i)) p (S .earlier) (rw (eq-eqb (getD words p 0) (getD words i 0) e)))
 
     module _ (other : getD words p 0 ≡ getD words i 0 → ⊥) where
       below : (j : ℕ) → getD words j 0 ≡ getD words i 0 → Leads kids j digits p → (0 < kid kids p digits) × Leads kids j (digits / ways) (kid kids p digits)
@@ -59,8 +58,8 @@ module _ {words kids : List ℕ} {i : ℕ} (H : Hung words i kids) where
 
       -- there is no way down: it is new
       module _ (none : kid kids p digits ≡ 0) where
-        pub seek-new : true ≡ every i (λ j. not (eqb (getD words j 0) (getD words i 0)))
-        seek-new = sym (every-of i (λ j. not (eqb (getD words j 0) (getD words i 0)))
+        pub seek-new : true ≡ every i (λ j. not (same words j i))
+        seek-new = sym (every-of i (λ j. not (same words j i))
             (λ j q. rw (ne-eqb (getD words j 0) (getD words i 0) (λ e. absurd (omega (arith, below j e (S .same j q e) .0))))))
 
         module _ (some : 1 ≤ i) (few : i < mostPlaces) where
@@ -101,18 +100,15 @@ hung-first words = record {
 }
 
 module _ (words : List ℕ) where
-  abbrev same : ℕ → ℕ → Bool
-  same j i = eqb (getD words j 0) (getD words i 0)
-
   -- one word more that differs from those before it, or does not
   module _ (i : ℕ) where
-    pub apart-more : apart i same ≡ true → every i (λ j. not (same j i)) ≡ true → apart (i + 1) same ≡ true
+    pub apart-more : apart i (same words) ≡ true → every i (λ j. not (same words j i)) ≡ true → apart (i + 1) (same words) ≡ true
     unfolding apart
-    apart-more a e = every-more i (λ k. every k (λ j. not (same j k))) a e
+    apart-more a e = every-more i (λ k. every k (λ j. not (same words j k))) a e
 
-    pub apart-fails : (n : ℕ) → i < n → every i (λ j. not (same j i)) ≡ false → apart n same ≡ false
+    pub apart-fails : (n : ℕ) → i < n → every i (λ j. not (same words j i)) ≡ false → apart n (same words) ≡ false
     unfolding apart
-    apart-fails n p e = every-false n (λ k. every k (λ j. not (same j k))) i p e
+    apart-fails n p e = every-false n (λ k. every k (λ j. not (same words j k))) i p e
 
-  pub apart-fewer : (i n : ℕ) → n ≤ i → apart i same ≡ true → apart n same ≡ true
-  apart-fewer i n p h = apart-of n same (λ k j q r. apart-true i same h k j (omega arith) r)
+  pub apart-fewer : (i n : ℕ) → n ≤ i → apart i (same words) ≡ true → apart n (same words) ≡ true
+  apart-fewer i n p h = apart-of n (same words) (λ k j q r. apart-true i (same words) h k j (omega arith) r)

@@ -1,9 +1,15 @@
 -- The tree of digits in which words hang, each but the first under an earlier one.
 use Prim.Native.Nat.{ℕ, _+_, _*_, _/_, _%_, _≤_, _<_}
 use mathlib.Core.Path.{_≡_}
+use mathlib.Core.Bool.{Bool}
 use mathlib.Core.List.{List}
+use lib.Dec.{eqb}
 use lib.ListN.{length, getD}
 use Rattle.paper.specs.Sizes.{mostPlaces}
+
+-- words j and i are the same
+abbrev pub same : List ℕ → ℕ → ℕ → Bool
+same words j i = eqb (getD words j 0) (getD words i 0)
 
 -- the ways down from a word, one for each digit
 abbrev pub ways : ℕ

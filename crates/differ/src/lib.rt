@@ -4,20 +4,15 @@ use paper::sizes::MOST_PLACES;
 ghost use mathlib.Core.Path.{_≡_};
 ghost use mathlib.Core.Bool.{true, not};
 ghost use Prim.Native.Nat.{_+_, _≤_, _<_};
-ghost use lib.Dec.{eqb};
-ghost use lib.ListN.{length, getD};
+ghost use lib.ListN.{length};
 ghost use Rattle.paper.specs.Sizes.{mostPlaces};
 ghost use Rattle.paper.specs.Test.{every, apart};
-ghost use Rattle.differ.specs.Tree.{Hung};
+ghost use Rattle.differ.specs.Tree.{same, Hung};
 
-// The ways down from a word: one for each digit of three bits, the lowest first.
-const WAYS: usize = 8;
+// Digits are of three bits, the lowest first, and there is a way down from a word for each.
+const DIGITS: u32 = 8;
 
-fn wide(word: u32) -> usize
-    ensures { λ r. ⌜ r ≡ word ⌝ }
-{
-    word as usize
-}
+const WAYS: usize = DIGITS as usize;
 
 fn index(kid: u16) -> usize
     ensures { λ r. ⌜ r ≡ kid ⌝ }
@@ -29,21 +24,21 @@ fn index(kid: u16) -> usize
 fn is_new(words: &[u32], i: usize, kids: &mut [u16]) -> bool
     requires { ⌜ (1 ≤ i) × (i < length (now words)) × (i < mostPlaces) ⌝ }
     requires { ⌜ Hung (now words) i (now kids) ⌝ }
-    ensures { λ r. ⌜ r ≡ every i (λ j. not (eqb (getD (now (words .entry)) j 0) (getD (now (words .entry)) i 0))) ⌝ }
+    ensures { λ r. ⌜ r ≡ every i (λ j. not (same (now (words .entry)) j i)) ⌝ }
     ensures { λ r. ⌜ (r ≡ true → Hung (now (words .entry)) (i + 1) (now (kids .exit))) ⌝ }
 {
     let word = words[i];
-    let mut digits = wide(word);
+    let mut digits = word;
     let mut p = 0;
     while words[p] != word {
-        let at = WAYS * p + digits % WAYS;
+        let at = WAYS * p + (digits % DIGITS) as usize;
         let next = index(kids[at]);
         if next == 0 {
             kids[at] = i as u16;
             return true;
         }
         p = next;
-        digits /= WAYS;
+        digits /= DIGITS;
     }
     false
 }
@@ -51,7 +46,7 @@ fn is_new(words: &[u32], i: usize, kids: &mut [u16]) -> bool
 // Whether no two of the first n words are the same.
 pub fn all_differ(words: &[u32], n: usize) -> bool
     requires { ⌜ (n ≤ length (now words)) × (n ≤ mostPlaces) ⌝ }
-    ensures { λ r. ⌜ r ≡ apart n (λ j i. eqb (getD (now (words .entry)) j 0) (getD (now (words .entry)) i 0)) ⌝ }
+    ensures { λ r. ⌜ r ≡ apart n (same (now (words .entry))) ⌝ }
 {
     let mut kids = [0u16; WAYS * MOST_PLACES];
     // the last word that hangs in the tree

@@ -10,9 +10,7 @@ ghost use Prim.Native.Nat.{_+_, _*_, _^_, _≤_, _<_};
 ghost use lib.ListN.{length};
 ghost use Rattle.paper.specs.Sizes.{lineWords, mostOffices};
 ghost use Rattle.paper.specs.Slice.{cleared as clearedOf};
-ghost use Rattle.paper.specs.Map.{Map};
-ghost use Rattle.paper.specs.Quest.{Quest};
-ghost use Rattle.paper.specs.Listing.{lineOf};
+ghost use Rattle.paper.specs.Listing.{lineWith};
 ghost use Rattle.nearest.specs.Working.{sideWords, key as keyOf, Side, Stored};
 ghost use Rattle.quadtree.specs.Walks.{trailOf};
 ghost use Rattle.nearest.specs.Going.{Wrote};
@@ -71,7 +69,7 @@ pub fn trail_at(working: &[u64], i: usize, low: Network) -> Trail
 // The line of office i, whose place has this gazetteer number, as line r of the answer.
 pub fn write_line(answer: &mut [u64], r: usize, i: usize, t: Trail, gazetteer: u32)
     requires { ⌜ lineWords * r + lineWords ≤ length (now answer) ⌝ }
-    ensures { λ _. ⌜ ((m : Map) (x : Quest) → gazetteer ≡ m .gazetteer (x .stand i) → Wrote r (lineOf m x i (trailOf t)) (now (answer .entry)) (now (answer .exit))) ⌝ }
+    ensures { λ _. ⌜ Wrote r (lineWith i (trailOf t) gazetteer) (now (answer .entry)) (now (answer .exit)) ⌝ }
 {
     let at = LINE_WORDS * r;
     answer[at] = i as u64;

@@ -6,7 +6,7 @@ use mathlib.Core.Path.{_≡_, refl, sym}
 use mathlib.Core.Bool.{Bool, true, false, not}
 use mathlib.Core.List.{List}
 use lib.Dec.{ltb, eqb}
-use lib.ListN.{length, getD, set}
+use lib.ListN.{length, set}
 use lib.Seq.{getD-set-same, getD-set-other}
 use borrow.Author.Tests.{ltb-true}
 use Rattle.paper.specs.Sizes.{gridSide}
@@ -14,6 +14,7 @@ use Rattle.paper.specs.Test.{both, every, apart}
 use Rattle.paper.specs.Map.{Map}
 use Rattle.paper.specs.Layout.{sharing, sharingNumber, placeHolds, placesHold}
 use Rattle.paper.proofs.Test.{both-left, both-right, both-false-left, every-more, apart-same}
+use Rattle.differ.specs.Tree.{same}
 use Rattle.sheet.specs.Records.{Kept, Taken}
 use Rattle.sheet.proofs.Pairs.{pair-eqb}
 
@@ -48,9 +49,6 @@ module _ {m : Map} {i : ℕ} {cells numbers : List ℕ} (P : Placed m i cells nu
 
 -- what the words of the two slices tell of the rule
 module _ (m : Map) (n : ℕ) (cells numbers : List ℕ) (e : n ≡ m .places) where
-  abbrev same : List ℕ → ℕ → ℕ → Bool
-  same words j i = eqb (getD words j 0) (getD words i 0)
-
   module _ (h : every n (placeHolds m) ≡ true) (T : Taken m n cells numbers) where
     cells-by : apart n (same cells) ≡ apart n (sharing m)
     cells-by = apart-same n (same cells) (sharing m) (λ i j p q. let J : Kept m j _ _ = T j (omega arith) in let I : Kept m i _ _ = T i p in

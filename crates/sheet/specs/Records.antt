@@ -15,14 +15,14 @@ pub record LiesAt (m : Map) (v : ℕ) (c : Cell) : Type 0 where
   pub x : c .x ≡ m .x v
   pub y : c .y ≡ m .y v
 
--- the place v holds: it lies on the grid, n is its cell as one number, and g is its gazetteer number
+-- the place v lies on the grid, n is its cell as one number, and g is its gazetteer number
 pub record Kept (m : Map) (v n g : ℕ) : Type 0 where
   pub x : m .x v < gridSide
   pub y : m .y v < gridSide
   pub cell : n ≡ m .x v * gridSide + m .y v
   pub gazetteer : g ≡ m .gazetteer v
 
--- so does each of the first n places, by the words of the two slices
+-- the same of each of the first n places, by the words of the two slices
 abbrev pub Taken : Map → ℕ → List ℕ → List ℕ → Type 0
 Taken m n cells numbers = (v : ℕ) → v < n → Kept m v (getD cells v 0) (getD numbers v 0)
 

@@ -121,12 +121,22 @@ fn old_sheets() -> Vec<Edge> {
         of_words(2, "an old sheet of long stages", &[3, 0, 0, 1, 0, 2, 0, 3, 0, 1, 9_000, 1, 2, 1, 2, 0, 1, 0, 0]),
         // One stage, one block and ten offices, and nothing left over; the last place has number 0.
         of_words(3, "an old sheet that makes whole sections", &OLD_AND_WHOLE),
+        // The first stage makes up the third place, its length the count of the others.
+        Edge { name: "an old sheet that is true of other places", sheet: bytes_of(&OLD_AND_TRUE), due: Due::Check(0) },
     ]
 }
 
 /// Two places, two stages, two blocks and three offices: a true sheet before item 2.
 const OLD_AND_WHOLE: [u32; 29] =
     [2, 0, 0, 5, 5, 2, 0, 1, 1, 1, 0, 1, 2, 0, 0, 10, 0, 0, 10, 1, 0, 10, 0, 0, 10, 3, 0, 0, 1];
+
+/// Three places and two offices, with five stages before item 2 and four since; true before it, and true now.
+const OLD_AND_TRUE: [u32; 51] = [
+    3, 0, 600, 10, 700, 3, 20, 5, 0, 1, 4, 0, 2, 100, 1, 0, 7, 1, 2, 1, 2, 1, 9, 4, 0, 0, 10, 0, 0, RATIO_MOST, 1, 0, 9, 1, 0,
+    RATIO_MOST, 1, 524_288, 9, 0, 0, RATIO_MOST, 2, 0, 10, 0, 0, RATIO_MOST, 2, 1, 2,
+];
+
+const RATIO_MOST: u32 = u32::MAX;
 
 fn orders() -> Vec<Edge> {
     let mut odd = bytes_of(&[0, 0, 0, 0]);

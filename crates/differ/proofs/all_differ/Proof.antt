@@ -3,20 +3,19 @@ use mathlib.Core.Path.{_≡_, refl, sym, _∙_}
 use mathlib.Core.Bool.{true}
 use Prim.Native.Nat.{ℕ, _+_, _-_, _*_, _<_}
 use native.Mathlib.Omega.{arith}
-use lib.Dec.{eqb}
-use lib.ListN.{length, length-replicate, getD}
+use lib.ListN.{length, length-replicate}
 use borrow.Author.Tests.{not-true, not-false}
 use borrow.Author.Needs.{needs}
 use Rattle.paper.specs.Sizes.{mostPlaces}
 use Rattle.paper.specs.Test.{every, apart}
-use Rattle.differ.specs.Tree.{ways, Hung}
+use Rattle.differ.specs.Tree.{same, ways, Hung}
 use Rattle.differ.proofs.Hanging.{hung-first, apart-more, apart-fails, apart-fewer}
 use Rattle.differ.proofs.all_differ.Statement.{statement}
 use Rattle.differ.proofs.all_differ.Tie as tie
 
 abbrev Inv-loop : tie.InvT-loop
 Inv-loop words n kids₀ i₀ kids i =
-    (i < mostPlaces) × (length kids ≡ ways * mostPlaces) × Hung words (i + 1) kids × (apart (i + 1) (λ j k. eqb (getD words j 0) (getD words k 0)) ≡ true)
+    (i < mostPlaces) × (length kids ≡ ways * mostPlaces) × Hung words (i + 1) kids × (apart (i + 1) (same words) ≡ true)
 
 abbrev μ-loop : tie.MeasureT-loop
 μ-loop words n kids₀ i₀ kids i = n - i

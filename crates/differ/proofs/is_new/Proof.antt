@@ -22,13 +22,10 @@ mul-word c = search needs
 shared-slice-read-word : tie.Need-shared-slice-read-word Inv-loop μ-loop
 shared-slice-read-word c = search needs
 
-wide-requires : tie.Need-wide-requires Inv-loop μ-loop
-wide-requires c κs = search needs
-
 loop-holds : tie.Need-loop-holds Inv-loop μ-loop
 loop-holds c =
-    let s = c .before .before .before .before in
-    (refl, s .pre .1, subst (λ (d : ℕ). Seeking (s .args .words .now) (s .args .i) (s .args .kids .now) d 0) (sym (c .wide .ensures)) (seek (s .pre .1) (s .pre .0 .0)))
+    let s = c .before .before .before in
+    (refl, s .pre .1, seek (s .pre .1) (s .pre .0 .0))
 
 mul-if1 : tie.Need-mul-if1 Inv-loop μ-loop
 mul-if1 c = search needs
@@ -38,6 +35,9 @@ shared-slice-read-if1 c = search needs
 
 mul-at : tie.Need-mul-at Inv-loop μ-loop
 mul-at c = search needs
+
+cast-at : tie.Need-cast-at Inv-loop μ-loop
+cast-at c = search needs
 
 add-at : tie.Need-add-at Inv-loop μ-loop
 add-at c = search needs
@@ -67,7 +67,7 @@ returns : tie.Need-returns Inv-loop μ-loop
 returns c =
     let t = c .before .before .before in
     let l = t .before .before in
-    let s = l .before .before .before .before .before in
+    let s = l .before .before .before .before in
     let none = sym (c .before .index .ensures) ∙ c .if2 .taken in
     (seek-new (l .loop .inv .1) (l .loop .inv .2) (t .if1 .taken) none, λ e. seek-hung (l .loop .inv .1) (l .loop .inv .2) (t .if1 .taken) none (s .pre .0 .0) (s .pre .0 .2))
 
@@ -81,7 +81,7 @@ loop-again c =
     let t = c .before .before .before in
     let l = t .before .before in
     let e = c .before .index .ensures in
-    let s = l .before .before .before .before .before in (
+    let s = l .before .before .before .before in (
       l .loop .inv .0,
       l .loop .inv .1,
       subst (λ (q : ℕ). Seeking (s .args .words .now) (s .args .i) (l .loop .kids) (l .loop .digits / ways) q) (sym e)
@@ -105,11 +105,11 @@ is-new-spec =
     μ-loop
     mul-word
     shared-slice-read-word
-    wide-requires
     loop-holds
     mul-if1
     shared-slice-read-if1
     mul-at
+    cast-at
     add-at
     mul-index
     slice-read-index

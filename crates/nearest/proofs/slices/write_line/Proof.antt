@@ -1,13 +1,9 @@
 -- `nearest::slices::write_line` meets its contract.
-use mathlib.Core.Path.{subst}
-use Prim.Native.Nat.{ℕ, _*_}
 use native.Mathlib.Omega.{arith}
 use borrow.Author.Needs.{needs}
 use lib.ListN.{length-set}
-use Rattle.paper.specs.Sizes.{lineWords}
-use Rattle.paper.specs.Listing.{Line}
-use Rattle.paper.specs.Reply.{lineOut}
-use Rattle.nearest.specs.Going.{Wrote}
+use Rattle.paper.specs.Listing.{lineWith}
+use Rattle.quadtree.specs.Walks.{trailOf}
 use Rattle.nearest.proofs.Stores.{puts, wrote-puts}
 use Rattle.nearest.proofs.slices.write_line.Statement.{statement}
 use Rattle.nearest.proofs.slices.write_line.Tie as tie
@@ -62,10 +58,7 @@ same-length c = search needs
 
 returns : tie.Need-returns
 unfolding puts
-returns c m x e =
-    let a = c .args in
-    let line : ℕ → Line = λ g. record { number = a .i; low = a .t .low .0; high = a .t .high .0; stages = a .t .stages; gazetteer = g } in
-    subst (λ (g : ℕ). Wrote (a .r) (line g) (a .answer .now) (puts (a .answer .now) (lineWords * a .r) 0 (lineOut (line (a .gazetteer))))) e (wrote-puts (a .answer .now) (a .r) (line (a .gazetteer)) (c .pre))
+returns c = let a = c .args in wrote-puts (a .answer .now) (a .r) (lineWith (a .i) (trailOf (a .t)) (a .gazetteer)) (c .pre)
 
 pub write-line-spec : {M : Type 1} → statement M
 write-line-spec =

@@ -1,11 +1,10 @@
 -- `sheet::places::places_hold` meets its contract: each test of the paper's rule by the function that makes it.
 use mathlib.Core.Path.{_≡_, sym, _∙_}
-use mathlib.Core.Bool.{Bool, true}
+use mathlib.Core.Bool.{true}
 use mathlib.Core.List.{List}
 use Prim.Native.Nat.{ℕ}
 use native.Mathlib.Omega.{arith}
-use lib.Dec.{eqb}
-use lib.ListN.{length, getD, length-replicate}
+use lib.ListN.{length, length-replicate}
 use borrow.Author.Tests.{not-true, not-false}
 use borrow.Author.Needs.{needs}
 use Rattle.paper.specs.Sizes.{mostPlaces}
@@ -13,6 +12,7 @@ use Rattle.paper.specs.Test.{both, apart}
 use Rattle.paper.specs.Sheet.{mapOf}
 use Rattle.paper.specs.Layout.{placesHold}
 use Rattle.paper.proofs.Test.{both-false-left, both-so}
+use Rattle.differ.specs.Tree.{same}
 use Rattle.sheet.proofs.Placed.{places-fail, places-by}
 use Rattle.sheet.proofs.Room.{Room, room}
 use Rattle.sheet.proofs.places.places_hold.Statement.{statement}
@@ -48,9 +48,6 @@ module _ (c : tie.Else1) where
   abbrev places : ℕ
   places = begin here .args .counts .places
 
-  abbrev same : List ℕ → ℕ → ℕ → Bool
-  same words j i = eqb (getD words j 0) (getD words i 0)
-
   by-words : both (apart places (same (cells here))) (apart places (same (numbers here))) ≡ placesHold (mapOf (begin here .args .sheet .now))
   by-words =
       let e = not-false _ (c .if1 .left) in
@@ -82,7 +79,7 @@ all-differ-requires c κs = let d = held (c .before) in omega (arith, long d, fa
 returns-2 : tie.Need-returns-2
 returns-2 c =
     let e = c .before .before .before in
-    sym (both-false-left _ (apart (places e) (same e (numbers (held e)))) (sym (c .before .all-differ .ensures) ∙ not-true _ (c .if2 .taken))) ∙ by-words e
+    sym (both-false-left _ (apart (places e) (same (numbers (held e)))) (sym (c .before .all-differ .ensures) ∙ not-true _ (c .if2 .taken))) ∙ by-words e
 
 slice-aggregate-all-differ-2 : tie.Need-slice-aggregate-all-differ-2
 slice-aggregate-all-differ-2 c = search needs
@@ -94,7 +91,7 @@ returns-3 : tie.Need-returns-3
 returns-3 c =
     let f = c .before .before in
     let e = f .before .before .before in
-    let first : apart (places e) (same e (cells (held e))) ≡ true = sym (f .before .all-differ .ensures) ∙ not-false _ (f .if2 .left) in
+    let first : apart (places e) (same (cells (held e))) ≡ true = sym (f .before .all-differ .ensures) ∙ not-false _ (f .if2 .left) in
     c .all-differ2 .ensures ∙ sym (both-so _ first) ∙ by-words e
 
 pub places-hold-spec : {M : Type 1} → statement M
