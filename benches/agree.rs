@@ -1,9 +1,10 @@
 //! Whether both sides agree on small sheets, true and damaged: a peer that left a rule out would be fast for nothing.
 
 use crate::inputs::damage;
-use crate::inputs::draw::ask;
+use crate::inputs::draw::{ask, NO_DIRECTIONS};
 use crate::inputs::rng::Rng;
 use crate::parts::{check, layout, question};
+use crate::rules::asked::{Asked, WAYS};
 use crate::rules::refusal::Number;
 use crate::sheets::{Drawn, NAMES};
 use crate::stop::Stop;
@@ -20,7 +21,7 @@ const SEED: u64 = 5;
 struct Met {
     sheets: usize,
     checks: BTreeSet<Number>,
-    questions: BTreeSet<Number>,
+    questions: [BTreeSet<Number>; WAYS.len()],
 }
 
 pub fn on_small_sheets() -> Result<(), Stop> {
@@ -29,15 +30,23 @@ pub fn on_small_sheets() -> Result<(), Stop> {
         for name in NAMES {
             let drawn = Drawn::of(name, places, OFFICES);
             met.one(&mut Rng::new(SEED, 0), &drawn.title(), &drawn.bytes, &drawn)?;
-            for q in 0..places as u32 {
-                NEAREST.into_iter().try_for_each(|k| question::agree_on_truth(&drawn, q, k).map(|_| ()))?;
+            for asked in all_questions(places) {
+                question::agree_on_truth(&drawn, asked)?;
             }
             met.damaged(&drawn)?;
         }
     }
     writeln!(io::stdout(), "both sides agree on {} small sheets, true and damaged", met.sheets)?;
-    writeln!(io::stdout(), "numbers met: check {:?}, question {:?}", met.checks, met.questions)?;
+    let [outward, inward, neither] = met.questions;
+    write!(io::stdout(), "numbers met: check {:?}, question outward {outward:?}, ", met.checks)?;
+    writeln!(io::stdout(), "inward {inward:?}, in neither direction {neither:?}")?;
     Ok(())
+}
+
+/// About every place, in both directions.
+fn all_questions(places: usize) -> impl Iterator<Item = Asked> {
+    let about = |q| NEAREST.into_iter().flat_map(move |k| Asked::outward(q, k).both_ways());
+    (0..places as u32).flat_map(about)
 }
 
 impl Met {
@@ -45,8 +54,11 @@ impl Met {
     fn one(&mut self, rng: &mut Rng, what: &str, bytes: &[u8], drawn: &Drawn) -> Result<(), Stop> {
         layout::agree(what, bytes)?;
         self.checks.insert(check::agree(what, bytes, drawn.places())?.0);
-        let (q, k) = ask(rng, &drawn.sheet);
-        self.questions.insert(question::agree(what, bytes, q, k)?.0.number);
+        let asked = ask(rng, &drawn.sheet);
+        let neither = Asked { direction: rng.pick(&NO_DIRECTIONS), ..asked };
+        for asked in asked.both_ways().into_iter().chain([neither]) {
+            self.questions[asked.way()].insert(question::agree(what, bytes, asked)?.0.number);
+        }
         self.sheets += 1;
         Ok(())
     }

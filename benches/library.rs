@@ -1,10 +1,11 @@
 //! The library, by its two C functions and nothing else, made safe.
 
 use crate::atlas::{atlas_check, atlas_question};
+use crate::rules::asked::Asked;
 use crate::rules::host::long_words_of;
 use crate::rules::limits::{ANSWER_WORDS, COUNT_WORDS, LONG_WORD_BYTES, WORKING_WORDS};
 use crate::rules::question::Outcome;
-use crate::rules::refusal::{Number, ACCEPTED, BAD_Q};
+use crate::rules::refusal::{Number, ACCEPTED, BAD_Q_OR_DIRECTION};
 
 const COUNTS_BYTES: usize = LONG_WORD_BYTES * COUNT_WORDS;
 
@@ -40,14 +41,15 @@ pub fn check(sheet: &[u8], distances: &mut [u8]) -> Number {
     unsafe { atlas_check(sheet.as_ptr(), sheet.len(), distances.as_mut_ptr(), distances.len()) }
 }
 
-pub fn question(sheet: &[u8], q: u32, k: u32, lent: &mut Lent) -> Number {
+pub fn question(sheet: &[u8], asked: Asked, lent: &mut Lent) -> Number {
     // SAFETY: as above.
     unsafe {
         atlas_question(
             sheet.as_ptr(),
             sheet.len(),
-            q,
-            k,
+            asked.q,
+            asked.k,
+            asked.direction,
             lent.answer.as_mut_ptr(),
             lent.answer.len(),
             lent.working.as_mut_ptr(),
@@ -60,8 +62,8 @@ pub fn question(sheet: &[u8], q: u32, k: u32, lent: &mut Lent) -> Number {
 
 /// The layout rules alone: no sheet has this place, which is refused right after them.
 pub fn layout(sheet: &[u8], lent: &mut Lent) -> Number {
-    match question(sheet, u32::MAX, 1, lent) {
-        BAD_Q => ACCEPTED,
+    match question(sheet, Asked::outward(u32::MAX, 1), lent) {
+        BAD_Q_OR_DIRECTION => ACCEPTED,
         number => number,
     }
 }

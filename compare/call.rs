@@ -49,7 +49,7 @@ impl Call {
     pub fn lengths(&self) -> Vec<usize> {
         match self.ask {
             Ask::Check(bytes) => vec![bytes],
-            Ask::Question(_, _, lengths) => lengths.to_vec(),
+            Ask::Question(_, lengths) => lengths.to_vec(),
         }
     }
 
@@ -71,8 +71,8 @@ impl Call {
             fill(slice, self.salt_of(i));
         }
         let number = match (self.ask, &mut slices[..]) {
-            (Ask::Question(q, k, _), [answer, working, counts]) => {
-                host::question(sheet, q, k, answer, working, counts)
+            (Ask::Question(asked, _), [answer, working, counts]) => {
+                host::question(sheet, asked, answer, working, counts)
             }
             (_, slices) => host::check(sheet, &mut slices[0]),
         };
@@ -87,8 +87,8 @@ impl Call {
             fill(slice.bytes_mut(), self.salt_of(i));
         }
         let number = noted(which, self.ask, || match (self.ask, &mut lent[..]) {
-            (Ask::Question(q, k, _), [answer, working, counts]) => {
-                library::question(sheet, (q, k), answer, working, counts)
+            (Ask::Question(asked, _), [answer, working, counts]) => {
+                library::question(sheet, asked, answer, working, counts)
             }
             (_, slices) => library::check(sheet, &mut slices[0]),
         });
@@ -98,10 +98,10 @@ impl Call {
 
     /// The records of a list.
     pub fn list(&self, outcome: &Outcome) -> Vec<Record> {
-        let Ask::Question(_, k, _) = self.ask else {
+        let Ask::Question(asked, _) = self.ask else {
             return Vec::new();
         };
-        let count = if outcome.number == ACCEPTED { k as usize } else { 0 };
+        let count = if outcome.number == ACCEPTED { asked.k as usize } else { 0 };
         let words = long_words_of(&outcome.slices[0]);
         words.chunks(ANSWER_WORDS).take(count).map(|record| record.try_into().expect("a whole record")).collect()
     }

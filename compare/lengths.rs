@@ -1,10 +1,12 @@
-//! The calls that are made on a sheet: q and k in and out of range, and slices at, about and far from their limits.
+//! The calls that are made on a sheet: q, k and direction in and out of range, and slices at, about and far from their
+//! limits.
 
 use crate::ask::Ask;
 use crate::call::Call;
 use crate::guarded::Guard;
-use crate::inputs::draw::ask;
+use crate::inputs::draw::{any_direction, ask, NO_DIRECTIONS};
 use crate::inputs::rng::Rng;
+use crate::rules::asked::Asked;
 use crate::rules::limits::*;
 use crate::rules::sheet::Sheet;
 
@@ -49,14 +51,14 @@ pub fn check_short(rng: &mut Rng, sizes: &Sizes) -> Call {
 }
 
 /// A question of which no slice is too short.
-pub fn question_with_room(rng: &mut Rng, sizes: &Sizes, (q, k): (u32, u32)) -> Call {
-    let lengths = sizes.of_question(k).map(|length| enough(rng, length));
-    call(rng, Ask::Question(q, k, lengths))
+pub fn question_with_room(rng: &mut Rng, sizes: &Sizes, asked: Asked) -> Call {
+    let lengths = sizes.of_question(asked.k).map(|length| enough(rng, length));
+    call(rng, Ask::Question(asked, lengths))
 }
 
 /// A question of which mostly no slice is too short, or one of them, or all.
-pub fn question(rng: &mut Rng, sizes: &Sizes, (q, k): (u32, u32)) -> Call {
-    let exact = sizes.of_question(k);
+pub fn question(rng: &mut Rng, sizes: &Sizes, asked: Asked) -> Call {
+    let exact = sizes.of_question(asked.k);
     let mut lengths = exact.map(|length| enough(rng, length));
     let changed = rng.below(9);
     for slice in 0..exact.len() {
@@ -64,11 +66,11 @@ pub fn question(rng: &mut Rng, sizes: &Sizes, (q, k): (u32, u32)) -> Call {
             lengths[slice] = short(rng, exact[slice]);
         }
     }
-    call(rng, Ask::Question(q, k, lengths))
+    call(rng, Ask::Question(asked, lengths))
 }
 
-/// q and k for a sheet: mostly valid, else at the edges of their ranges and of their words.
-pub fn place_and_number(rng: &mut Rng, sheet: Option<&Sheet>, sizes: &Sizes) -> (u32, u32) {
+/// What is asked of a sheet: mostly valid, else at the edges of the ranges and of the words.
+pub fn asked(rng: &mut Rng, sheet: Option<&Sheet>, sizes: &Sizes) -> Asked {
     if let (Some(sheet), true) = (sheet, rng.chance(13)) {
         return ask(rng, sheet);
     }
@@ -76,7 +78,8 @@ pub fn place_and_number(rng: &mut Rng, sheet: Option<&Sheet>, sizes: &Sizes) -> 
     let q = rng.pick(&[0, 0, places / 2, places - 1, places - 1, places, places + 1, 1 << 31, u32::MAX]);
     // 40 × 2^27 is no 32-bit number any more, and the low 32 bits of 40 × 2^29 are 0.
     let k = rng.pick(&[0, 1, 1, offices, offices, offices, offices + 1, 1 << 27, 1 << 29, u32::MAX]);
-    (q, k)
+    let direction = any_direction(rng);
+    Asked { q, k, direction: if rng.chance(2) { rng.pick(&NO_DIRECTIONS) } else { direction } }
 }
 
 fn enough(rng: &mut Rng, exact: usize) -> usize {

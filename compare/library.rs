@@ -2,6 +2,7 @@
 
 use crate::atlas::{atlas_check, atlas_question};
 use crate::guarded::Guarded;
+use crate::rules::asked::Asked;
 
 pub fn check(sheet: &Guarded, distances: &mut Guarded) -> u32 {
     // SAFETY: each pointer goes with the length of its slice, and no two slices overlap.
@@ -10,7 +11,7 @@ pub fn check(sheet: &Guarded, distances: &mut Guarded) -> u32 {
 
 pub fn question(
     sheet: &Guarded,
-    (q, k): (u32, u32),
+    asked: Asked,
     answer: &mut Guarded,
     working: &mut Guarded,
     counts: &mut Guarded,
@@ -20,8 +21,9 @@ pub fn question(
         atlas_question(
             sheet.pointer(),
             sheet.length(),
-            q,
-            k,
+            asked.q,
+            asked.k,
+            asked.direction,
             answer.pointer(),
             answer.length(),
             working.pointer(),

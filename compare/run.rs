@@ -6,7 +6,8 @@ use crate::inputs::edges;
 use crate::inputs::edges::edge::Edge;
 use crate::inputs::longest::case::Case;
 use crate::inputs::rng::Rng;
-use crate::lengths::{check_short, checked, place_and_number, question, question_with_room, Sizes};
+use crate::lengths::{asked, check_short, checked, question, question_with_room, Sizes};
+use crate::rules::asked::Asked;
 use crate::rules::sheet::Sheet;
 use crate::sheets;
 use crate::table::Table;
@@ -78,7 +79,7 @@ impl Worker<'_> {
         let sizes = Sizes::of(sheet.as_ref());
         let mut calls = vec![check_short(rng, &sizes), checked(rng, &sizes), checked(rng, &sizes)];
         for _ in 0..SMALL_QUESTIONS {
-            let asked = place_and_number(rng, sheet.as_ref(), &sizes);
+            let asked = asked(rng, sheet.as_ref(), &sizes);
             calls.push(question(rng, &sizes, asked));
         }
         self.table.small += 1;
@@ -94,9 +95,10 @@ impl Worker<'_> {
             calls.push(checked(rng, &sizes));
         }
         for turn in 0..FULL_QUESTIONS {
-            let (q, k) = place_and_number(rng, sheet.as_ref(), &sizes);
+            let asked = asked(rng, sheet.as_ref(), &sizes);
             let few = rng.pick(&[1, 10, 100]);
-            calls.push(question(rng, &sizes, (q, if turn == 0 { k } else { k.min(few) })));
+            let k = if turn == 0 { asked.k } else { asked.k.min(few) };
+            calls.push(question(rng, &sizes, Asked { k, ..asked }));
         }
         self.table.full += 1;
         self.calls(rng, which, bytes, &calls);
@@ -104,14 +106,13 @@ impl Worker<'_> {
 
     /// Each question with room for its answer, then with any slices, then another; one check will do for the map.
     fn longest(&mut self, rng: &mut Rng, which: Which, case: &Case) {
-        for (turn, asked) in case.questions.iter().enumerate() {
-            let sheet = case.sheet(asked);
+        for (turn, due) in case.questions.iter().enumerate() {
+            let sheet = case.sheet(due);
             let sizes = Sizes::of(Some(&sheet));
             let mut calls = vec![if turn == 0 { checked(rng, &sizes) } else { check_short(rng, &sizes) }];
-            let asked = (asked.q, asked.k);
-            let other = place_and_number(rng, Some(&sheet), &sizes);
-            calls.push(question_with_room(rng, &sizes, asked));
-            calls.extend([asked, other].map(|asked| question(rng, &sizes, asked)));
+            let other = asked(rng, Some(&sheet), &sizes);
+            calls.push(question_with_room(rng, &sizes, due.asked));
+            calls.extend([due.asked, other].map(|asked| question(rng, &sizes, asked)));
             self.table.longest += 1;
             self.calls(rng, which, &sheet.to_bytes(), &calls);
         }

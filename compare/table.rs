@@ -1,22 +1,20 @@
-//! The count of sheets, calls and differences, of how often each function was due to give each number, of how often
-//! each input that has to be met was lent, and of what the longest walks came to.
+//! The count of sheets, calls and differences, of how often each function was due to give each number, the question in
+//! each direction, of how often each input that has to be met was lent, and of what the longest walks came to.
 
 use crate::ask::Ask;
 use crate::call::{Call, Outcome};
 use crate::guarded::Guarded;
+use crate::rules::asked::{NEITHER, WAYS};
 use crate::rules::limits::*;
 use crate::rules::refusal::*;
 use crate::which::Part;
 
 const DIFFERENCES_SHOWN: usize = 20;
 
-/// What each function is called, and a call that is not refused.
-const CHECK: [&str; 2] = ["check", "accepted"];
-const QUESTION: [&str; 2] = ["question", "listed"];
-
-/// The numbers that each function can give.
+/// The numbers that each function can give; of the question, in either direction and in neither.
 const OF_CHECK: [Number; 13] = [0, 1, 2, 3, 4, 5, 6, 10, 11, 12, 13, 14, 15];
 const OF_QUESTION: [Number; 13] = [0, 1, 2, 3, 4, 5, 6, 7, 8, 9, 16, 17, 18];
+const OF_NEITHER: [Number; 7] = [1, 2, 3, 4, 5, 6, 7];
 
 /// The bytes of the four counts and of the most records.
 const LARGEST_SHEET: usize = WORD_BYTES
@@ -52,17 +50,28 @@ const ANSWER_LENGTHS: [(&str, usize, usize, Number); ANSWERS] = [
 ];
 
 /// On the longest walks: what the functions give, and the ends, stages and gazetteer number of an office in a list.
-const LONGEST: usize = 9;
+const LONGEST: usize = 20;
 const LONGEST_NAMES: [&str; LONGEST] = [
     "check: accepted",
-    "question: refused 16",
-    "question: refused 18",
-    "0 to 97088700393 after 0 stages",
-    "97088700371 to 97088700393 after 0 stages",
-    "131070 to 96899039207 after 2 stages",
-    "94258461688 to 94258461708 after 1022 stages",
-    "67042305 to 67042305 after 1023 stages",
-    "gazetteer number 4294967295",
+    "outward: refused 16",
+    "outward: refused 17",
+    "outward: refused 18",
+    "outward: 0 to 97088700393 after 0 stages",
+    "outward: 97088700371 to 97088700393 after 0 stages",
+    "outward: 131070 to 96899039207 after 2 stages",
+    "outward: 94258461688 to 94258461708 after 1022 stages",
+    "outward: 67042305 to 67042305 after 1023 stages",
+    "outward: gazetteer number 4294967295",
+    "inward: refused 16",
+    "inward: refused 17",
+    "inward: refused 18",
+    "inward: 0 to 97088700393 after 0 stages",
+    "inward: 97088700371 to 97088700393 after 0 stages",
+    "inward: 131070 to 96899039207 after 2 stages",
+    "inward: 94258461688 to 94258461708 after 1022 stages",
+    "inward: 94258527223 to 94258527243 after 1023 stages",
+    "inward: 67042305 to 67042305 after 1023 stages",
+    "inward: gazetteer number 4294967295",
 ];
 
 /// Whether everything has to be met, or a part is compared again.
@@ -79,7 +88,7 @@ pub struct Table {
     pub longest: u64,
     pub at_once: u64,
     checks: [u64; LAST as usize + 1],
-    questions: [u64; LAST as usize + 1],
+    questions: [[u64; LAST as usize + 1]; WAYS.len()],
     inputs: [u64; INPUTS],
     answers: [u64; ANSWERS],
     walks: [u64; LONGEST],
@@ -106,32 +115,43 @@ fn inputs(call: &Call, sheet: &Guarded, due: Number) -> [bool; INPUTS] {
 
 /// Which of these lengths the answer of a call has.
 fn answers(call: &Call, due: Number) -> [bool; ANSWERS] {
-    let Ask::Question(_, k, [bytes, ..]) = call.ask else {
+    let Ask::Question(asked, [bytes, ..]) = call.ask else {
         return [false; ANSWERS];
     };
     ANSWER_LENGTHS.map(|(_, words, fewer, number)| {
-        due == number && bytes + fewer == LONG_WORD_BYTES * words * k as usize
+        due == number && bytes + fewer == LONG_WORD_BYTES * words * asked.k as usize
     })
 }
 
-fn given([function, good]: [&str; 2], number: Number) -> String {
-    if number == ACCEPTED { format!("{function}: {good}") } else { format!("{function}: refused {number}") }
+fn refused_or(good: &str, number: Number) -> String {
+    if number == ACCEPTED { String::from(good) } else { format!("refused {number}") }
 }
 
 /// What is due of a call, as the names of the longest walks tell it.
 fn walks(call: &Call, due: &Outcome) -> Vec<String> {
-    let function = if matches!(call.ask, Ask::Check(_)) { CHECK } else { QUESTION };
-    let mut names = vec![given(function, due.number)];
+    let Ask::Question(asked, _) = call.ask else {
+        return vec![format!("check: {}", refused_or("accepted", due.number))];
+    };
+    let mut met = vec![refused_or("listed", due.number)];
     for [_, low, high, stages, gazetteer] in call.list(due) {
-        names.push(format!("{low} to {high} after {stages} stages"));
-        names.push(format!("gazetteer number {gazetteer}"));
+        met.push(format!("{low} to {high} after {stages} stages"));
+        met.push(format!("gazetteer number {gazetteer}"));
     }
-    names
+    met.iter().map(|met| format!("{}: {met}", WAYS[asked.way()])).collect()
+}
+
+/// How often a function was due to give each of these numbers.
+fn numbered(function: &str, good: &str, numbers: &[Number], met: &[u64]) -> Vec<(String, u64)> {
+    let line = |&number: &Number| (format!("{function}: {}", refused_or(good, number)), met[number as usize]);
+    numbers.iter().map(line).collect()
 }
 
 impl Table {
     pub fn met(&mut self, part: Part, call: &Call, sheet: &Guarded, due: &Outcome) {
-        let numbers = if matches!(call.ask, Ask::Check(_)) { &mut self.checks } else { &mut self.questions };
+        let numbers = match call.ask {
+            Ask::Check(_) => &mut self.checks,
+            Ask::Question(asked, _) => &mut self.questions[asked.way()],
+        };
         numbers[due.number as usize] += 1;
         for (count, is) in self.inputs.iter_mut().zip(inputs(call, sheet, due.number)) {
             *count += u64::from(is);
@@ -156,7 +176,7 @@ impl Table {
         self.at_once += other.at_once;
         let add = |to: &mut [u64], from: &[u64]| to.iter_mut().zip(from).for_each(|(to, from)| *to += from);
         add(&mut self.checks, &other.checks);
-        add(&mut self.questions, &other.questions);
+        add(self.questions.as_flattened_mut(), other.questions.as_flattened());
         add(&mut self.inputs, &other.inputs);
         add(&mut self.answers, &other.answers);
         add(&mut self.walks, &other.walks);
@@ -165,9 +185,10 @@ impl Table {
 
     /// All that a whole comparison has to meet, and how often it was met.
     fn lines(&self) -> Vec<(String, u64)> {
-        let mut lines = Vec::new();
-        for (function, numbers, met) in [(CHECK, OF_CHECK, self.checks), (QUESTION, OF_QUESTION, self.questions)] {
-            lines.extend(numbers.map(|number| (given(function, number), met[number as usize])));
+        let mut lines = numbered("check", "accepted", &OF_CHECK, &self.checks);
+        for (way, met) in self.questions.iter().enumerate() {
+            let numbers = if way == NEITHER { &OF_NEITHER[..] } else { &OF_QUESTION };
+            lines.extend(numbered(&format!("question, {}", WAYS[way]), "listed", numbers, met));
         }
         lines.extend(INPUT_NAMES.iter().zip(self.inputs).map(|(name, met)| (format!("calls with {name}"), met)));
         let answers = ANSWER_LENGTHS.iter().zip(self.answers);
@@ -191,10 +212,12 @@ impl Table {
         for difference in self.differences.iter().take(DIFFERENCES_SHOWN) {
             text += &format!("DIFFERS {difference}\n");
         }
-        let (checks, questions) = (self.checks.iter().sum::<u64>(), self.questions.iter().sum::<u64>());
+        let checks = self.checks.iter().sum::<u64>();
+        let [outward, inward, neither] = self.questions.map(|met| met.iter().sum::<u64>());
         text += &format!("{} sheets of program size, {} of full size, ", self.small, self.full);
         text += &format!("{} of the longest walks; ", self.longest);
-        text += &format!("{checks} checks, {questions} questions; {} differ", self.differences.len());
+        text += &format!("{checks} checks, {outward} questions outward, {inward} inward, {neither} in neither direction; ");
+        text += &format!("{} differ", self.differences.len());
         if scope == Scope::Whole {
             text += &format!(", {} of the above were not met", self.not_met());
         }

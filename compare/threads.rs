@@ -6,7 +6,7 @@ use crate::inputs::damage::walk::WALK_FAULTS;
 use crate::inputs::draw::true_sheet;
 use crate::inputs::full::{self, KINDS};
 use crate::inputs::rng::Rng;
-use crate::lengths::{check_short, checked, place_and_number, question, Sizes};
+use crate::lengths::{asked, check_short, checked, question, Sizes};
 use crate::rules::sheet::Sheet;
 use crate::run::by_threads;
 use crate::table::Table;
@@ -73,7 +73,7 @@ fn calls(rng: &mut Rng, sheet: &Sheet) -> Vec<Call> {
     let sizes = Sizes::of(Some(sheet));
     let mut calls = vec![check_short(rng, &sizes), checked(rng, &sizes)];
     for _ in 0..QUESTIONS {
-        let asked = place_and_number(rng, Some(sheet), &sizes);
+        let asked = asked(rng, Some(sheet), &sizes);
         calls.push(question(rng, &sizes, asked));
     }
     calls

@@ -18,20 +18,26 @@
 #include <unistd.h>
 
 static const char usage[] =
-    "usage: catalogue [-c] SHEET [Q K]...\n"
-    "Lists the K offices nearest by road from place Q of a sheet, for each question Q K. SHEET is a file of bytes. Q is the place's\n"
-    "number on the sheet, or # and its gazetteer number: as an argument in quotes, '#103', since the shell takes a bare # and all that\n"
-    "follows it for a comment.\n"
-    "With no question there, they are read from standard input, one to a line, with spaces or tabs between Q and K. Blank lines\n"
-    "are skipped. What is no question is told on standard error, and the rest is still answered. Where the questions are arguments,\n"
-    "the sheet may come on standard input, as /dev/stdin.\n"
+    "usage: catalogue [-c] SHEET [[to|from] Q K]...\n"
+    "Lists, for each question, the K offices nearest by road\n"
+    "    to Q K      to place Q: the road runs from the office to the place, as that of a letter that came to Q did\n"
+    "    from Q K    from place Q: the road runs from the place to the office\n"
+    "    Q K         as to Q K; a from before another question is not meant for this one\n"
+    "SHEET is a file of bytes. Q is the place's number on the sheet, or # and its gazetteer number: as an argument in quotes, '#103',\n"
+    "since the shell takes a bare # and all that follows it for a comment.\n"
+    "With no question there, they are read from standard input, one to a line, with spaces or tabs between the words. Blank lines\n"
+    "are skipped. What is no question is told on standard error, and the rest is still answered.\n"
+    "Where the questions are arguments, the sheet may come on standard input, as /dev/stdin. A question begins at each argument that\n"
+    "begins with a letter, and after two numbers. Where the numbers up to the next such argument, or the last, do not come in twos,\n"
+    "they are no question, all of them together: one is missing, and which cannot be known.\n"
     "With -c the answers are columns, with tabs between:\n"
-    "    listed   Q K OFFICES REFINEMENTS GAZETTEER                  and then a line for each of the OFFICES listed:\n"
-    "    office   Q K RANK OFFICE PLACE LOW HIGH STAGES GAZETTEER    the road is LOW to HIGH furlongs long; STAGES were walked\n"
-    "    refused  Q K NUMBER\n"
+    "    listed   Q K OFFICES REFINEMENTS GAZETTEER DIRECTION                  and then a line for each of the OFFICES listed:\n"
+    "    office   Q K RANK OFFICE PLACE LOW HIGH STAGES GAZETTEER DIRECTION    the road is LOW to HIGH furlongs long; STAGES were walked\n"
+    "    refused  Q K NUMBER DIRECTION\n"
     "    unasked  COUNT             no question: line number COUNT, or question number COUNT of the arguments\n"
     "    refused-sheet  NUMBER      alone: no question is asked\n"
-    "Q is a place number there, however it was written; GAZETTEER is the gazetteer number of Q after listed, of PLACE after office.\n"
+    "Q is a place number there, however it was written; GAZETTEER is the gazetteer number of Q after listed, of PLACE after office;\n"
+    "DIRECTION is to or from.\n"
     "Exit status: 0 every question answered; 1 the sheet or a question refused; 2 something could not be asked or written.\n";
 
 /* Exit statuses; of several the highest counts. */
@@ -52,17 +58,35 @@ struct host {
     unsigned char counts[ATLAS_COUNTS_BYTES];
 };
 
-/* A question as it was written: two words, of an argument each or of a line; where it stood, for what is said of it. */
+/* A question as it was written: to or from or neither, and two numbers; of an argument each, or of a line. Words beyond the most that a
+   question has are only counted. Where it stood is for what is said of it. */
 struct word {
     const char *text;
     size_t length;
 };
 
+#define WORDS_MOST 3
+
 struct written {
     const char *where;
     unsigned long count;
-    struct word words[2];
+    struct word words[WORDS_MOST];
     size_t word_count;
+};
+
+struct question {
+    unsigned int q;
+    unsigned int k;
+    unsigned int direction;
+};
+
+/* By direction: what stands before the place asked about, and how the road runs. */
+static const struct {
+    const char *word;
+    const char *road;
+} directions[] = {
+    [ATLAS_OUTWARD] = {"from", "from the place to the office"},
+    [ATLAS_INWARD] = {"to", "from the office to the place"},
 };
 
 struct refusal {
@@ -100,9 +124,10 @@ static const struct refusal refusals[] = {
          SEND_BACK},
     [ATLAS_BAD_OFFICES] = {"An office stands at a place that is not on the sheet.", SEND_BACK},
     [ATLAS_BAD_Q] =
-        {"The place asked about is not on the sheet.",
+        {"The place asked about is not on the sheet, or the direction is neither outward nor inward.",
          "Ask again with a place number that is. Places are numbered from 0, so the last number is one less than their count. Place"
-         " numbers shift with each sheet: a place can also be asked for by its gazetteer number, as #103."},
+         " numbers shift with each sheet: a place can also be asked for by its gazetteer number, as #103. A program must give the"
+         " direction as 0, outward, or 1, inward; this one does."},
     [ATLAS_BAD_K] =
         {"No office was asked for, or more than the sheet has.",
          "Ask again for at least 1 office and at most as many as the sheet has."},
@@ -117,9 +142,12 @@ static const struct refusal refusals[] = {
          SEND_BACK " Sheets from before crow distances counted in 64ths of a cell have all been reissued: ask for the new issue."},
     [ATLAS_IDLE_BLOCK] = {"A block covers no place other than its own.", SEND_BACK},
     [ATLAS_WALK_TOO_LONG] =
-        {"The walk towards an office went on for as many stages as there are places, less one, and another was due.", NEVER_HERE},
-    [ATLAS_WALK_NO_BLOCK] = {"On the walk towards an office, no block covers the office's place.", NEVER_HERE},
-    [ATLAS_WALK_EMPTY] = {"On the walk towards an office, no length fits between the two ends.", NEVER_HERE},
+        {"The walk along an office's road went on for as many stages as there are places, less one, and another was due.", NEVER_HERE},
+    [ATLAS_WALK_NO_BLOCK] =
+        {"On the walk along an office's road, no block covers the place sought: outward the office's place, inward the place asked"
+         " about.",
+         NEVER_HERE},
+    [ATLAS_WALK_EMPTY] = {"On the walk along an office's road, no length fits between the two ends.", NEVER_HERE},
 };
 
 /* Room for so many bytes, or false where there is none left. No bytes need no room: NULL goes with length 0. */
@@ -205,17 +233,18 @@ static unsigned int gazetteer_of(const struct host *host, unsigned int place)
     return atlas_word32(host->sheet, 1 + (size_t)place * ATLAS_PLACE_WORDS + ATLAS_PLACE_GAZETTEER);
 }
 
-static void tell_refused(const struct host *host, unsigned int q, unsigned int k, unsigned int number)
+static void tell_refused(const struct host *host, const struct question *asked, unsigned int number)
 {
+    const char *word = directions[asked->direction].word;
     if (host->columns) {
-        printf("refused\t%u\t%u\t%u\n", q, k, number);
+        printf("refused\t%u\t%u\t%u\t%s\n", asked->q, asked->k, number, word);
         return;
     }
     printf("Refused, number %u (", number);
-    tell_counted(k, "office");
-    printf(" from place %u", q);
-    if (q < host->places)
-        printf(", #%u", gazetteer_of(host, q));
+    tell_counted(asked->k, "office");
+    printf(" %s place %u", word, asked->q);
+    if (asked->q < host->places)
+        printf(", #%u", gazetteer_of(host, asked->q));
     printf("). ");
     tell_meaning(number);
 }
@@ -230,16 +259,17 @@ static unsigned int place_of(const struct host *host, unsigned int office)
     return atlas_word32(host->sheet, host->first_office + office);
 }
 
-static void tell_columns(const struct host *host, unsigned int q, unsigned int k)
+static void tell_columns(const struct host *host, const struct question *asked)
 {
+    const char *word = directions[asked->direction].word;
     unsigned int rank;
-    printf("listed\t%u\t%u\t%.0f\t%.0f\t%u\n", q, k, atlas_word64(host->counts, ATLAS_COUNT_LISTED),
-           atlas_word64(host->counts, ATLAS_COUNT_REFINEMENTS), gazetteer_of(host, q));
-    for (rank = 0; rank < k; rank++) {
+    printf("listed\t%u\t%u\t%.0f\t%.0f\t%u\t%s\n", asked->q, asked->k, atlas_word64(host->counts, ATLAS_COUNT_LISTED),
+           atlas_word64(host->counts, ATLAS_COUNT_REFINEMENTS), gazetteer_of(host, asked->q), word);
+    for (rank = 0; rank < asked->k; rank++) {
         unsigned int office = (unsigned int)in_line(host, rank, ATLAS_LINE_OFFICE);
-        printf("office\t%u\t%u\t%u\t%u\t%u\t%.0f\t%.0f\t%.0f\t%.0f\n", q, k, rank + 1, office, place_of(host, office),
-               in_line(host, rank, ATLAS_LINE_LOW_END), in_line(host, rank, ATLAS_LINE_HIGH_END),
-               in_line(host, rank, ATLAS_LINE_STAGES_WALKED), in_line(host, rank, ATLAS_LINE_GAZETTEER));
+        printf("office\t%u\t%u\t%u\t%u\t%u\t%.0f\t%.0f\t%.0f\t%.0f\t%s\n", asked->q, asked->k, rank + 1, office,
+               place_of(host, office), in_line(host, rank, ATLAS_LINE_LOW_END), in_line(host, rank, ATLAS_LINE_HIGH_END),
+               in_line(host, rank, ATLAS_LINE_STAGES_WALKED), in_line(host, rank, ATLAS_LINE_GAZETTEER), word);
     }
 }
 
@@ -260,32 +290,34 @@ static void tell_office(const struct host *host, unsigned int rank)
     printf(" walked\n");
 }
 
-static void tell_words(const struct host *host, unsigned int q, unsigned int k)
+static void tell_words(const struct host *host, const struct question *asked)
 {
     unsigned int rank;
-    if (k == 1)
+    if (asked->k == 1)
         printf("The office");
     else
-        printf("The %u offices", k);
-    printf(" nearest by road from place %u (#%u):\n", q, gazetteer_of(host, q));
-    for (rank = 0; rank < k; rank++)
+        printf("The %u offices", asked->k);
+    printf(" nearest by road %s place %u (#%u), the road running %s:\n", directions[asked->direction].word, asked->q,
+           gazetteer_of(host, asked->q), directions[asked->direction].road);
+    for (rank = 0; rank < asked->k; rank++)
         tell_office(host, rank);
     tell_counted(atlas_word64(host->counts, ATLAS_COUNT_REFINEMENTS), "refinement");
     printf(" in all.\n");
 }
 
-static enum status ask(struct host *host, unsigned int q, unsigned int k)
+static enum status ask(struct host *host, const struct question *asked)
 {
-    unsigned int number = atlas_question(host->sheet, host->sheet_bytes, q, k, host->answer, ATLAS_ANSWER_BYTES(host->offices),
-                                         host->working, ATLAS_WORKING_BYTES(host->offices), host->counts, sizeof host->counts);
+    unsigned int number = atlas_question(host->sheet, host->sheet_bytes, asked->q, asked->k, asked->direction, host->answer,
+                                         ATLAS_ANSWER_BYTES(host->offices), host->working, ATLAS_WORKING_BYTES(host->offices),
+                                         host->counts, sizeof host->counts);
     if (number != ATLAS_LISTED) {
-        tell_refused(host, q, k, number);
+        tell_refused(host, asked, number);
         return REFUSED;
     }
     if (host->columns)
-        tell_columns(host, q, k);
+        tell_columns(host, asked);
     else
-        tell_words(host, q, k);
+        tell_words(host, asked);
     return ANSWERED;
 }
 
@@ -361,23 +393,52 @@ static enum status tell_fault(const struct host *host, const struct written *wri
     return NOT_ASKED;
 }
 
+/* What begins with a letter is never a number: it begins a question. */
+static bool is_lettered(struct word word)
+{
+    return word.length > 0 && ((word.text[0] >= 'a' && word.text[0] <= 'z') || (word.text[0] >= 'A' && word.text[0] <= 'Z'));
+}
+
+/* The direction that a word gives; what is returned is as above. */
+static const char *read_direction(struct word word, unsigned int *direction)
+{
+    for (*direction = 0; *direction < sizeof directions / sizeof *directions; ++*direction) {
+        const char *known = directions[*direction].word;
+        if (word.length == strlen(known) && memcmp(word.text, known, word.length) == 0)
+            return NULL;
+    }
+    return "is neither to nor from, in small letters";
+}
+
+#define EXPECTED "a question: Q K, to Q K or from Q K"
+
+/* Asks the question of two numbers, in a direction that is known. */
+static enum status ask_numbers(struct host *host, const struct written *written, const struct word *numbers, unsigned int direction)
+{
+    struct question asked = {0, 0, direction};
+    const char *fault = read_place(host, numbers[0], &asked.q);
+    if (fault != NULL)
+        return tell_fault(host, written, numbers[0], fault);
+    fault = read_number(numbers[1], &asked.k);
+    if (fault != NULL)
+        return tell_fault(host, written, numbers[1], fault);
+    return ask(host, &asked);
+}
+
 static enum status ask_written(struct host *host, const struct written *written)
 {
-    unsigned int q, k;
-    const char *fault;
-    if (written->word_count != 2) {
-        tell_unasked(host, written);
-        fprintf(stderr, "too %s numbers (%lu); expected a question as 2 numbers: Q K\n", written->word_count < 2 ? "few" : "many",
-                (unsigned long)written->word_count);
-        return NOT_ASKED;
-    }
-    fault = read_place(host, written->words[0], &q);
+    unsigned int direction = ATLAS_INWARD;
+    size_t before = is_lettered(written->words[0]) ? 1 : 0;
+    size_t numbers = written->word_count - before;
+    const char *fault = before == 0 ? NULL : read_direction(written->words[0], &direction);
     if (fault != NULL)
         return tell_fault(host, written, written->words[0], fault);
-    fault = read_number(written->words[1], &k);
-    if (fault != NULL)
-        return tell_fault(host, written, written->words[1], fault);
-    return ask(host, q, k);
+    if (numbers != 2) {
+        tell_unasked(host, written);
+        fprintf(stderr, "too %s numbers (%lu); expected " EXPECTED "\n", numbers < 2 ? "few" : "many", (unsigned long)numbers);
+        return NOT_ASKED;
+    }
+    return ask_numbers(host, written, written->words + before, direction);
 }
 
 static enum status not_written(void)
@@ -398,15 +459,49 @@ static enum status higher(enum status one, enum status other)
     return one > other ? one : other;
 }
 
+static struct word as_word(const char *argument)
+{
+    return (struct word){argument, strlen(argument)};
+}
+
+static void add_word(struct written *written, struct word word)
+{
+    if (written->word_count < WORDS_MOST)
+        written->words[written->word_count] = word;
+    written->word_count++;
+}
+
+/* How many arguments stand before the next that begins with a letter. */
+static size_t count_numbers(char **arguments, size_t count)
+{
+    size_t numbers = 0;
+    while (numbers < count && !is_lettered(as_word(arguments[numbers])))
+        numbers++;
+    return numbers;
+}
+
+/* The question that the first of the arguments begins. Numbers that do not come in twos are taken all at once, which is no question:
+   which of them is missing cannot be known. */
+static struct written take_question(char **arguments, size_t count, unsigned long number)
+{
+    struct written written = {"question", number, {{NULL, 0}}, 0};
+    size_t before = is_lettered(as_word(arguments[0])) ? 1 : 0;
+    size_t numbers = count_numbers(arguments + before, count - before);
+    size_t i, taken = before + (numbers > 0 && numbers % 2 == 0 ? 2 : numbers);
+    for (i = 0; i < taken; i++)
+        add_word(&written, as_word(arguments[i]));
+    return written;
+}
+
 static enum status ask_arguments(struct host *host, char **arguments, size_t count)
 {
     enum status status = ANSWERED;
-    size_t i;
-    for (i = 0; i + 1 < count && !host->cannot_write; i += 2) {
-        struct written written = {"question", i / 2 + 1, {{arguments[i], 0}, {arguments[i + 1], 0}}, 2};
-        written.words[0].length = strlen(arguments[i]);
-        written.words[1].length = strlen(arguments[i + 1]);
+    unsigned long number = 0;
+    size_t i = 0;
+    while (i < count && !host->cannot_write) {
+        struct written written = take_question(arguments + i, count - i, ++number);
         status = higher(status, passed_on(host, ask_written(host, &written)));
+        i += written.word_count;
     }
     return status;
 }
@@ -442,16 +537,14 @@ static bool read_line(struct line *line)
 
 static struct written split(const struct line *line, unsigned long count)
 {
-    struct written written = {"line", count, {{NULL, 0}, {NULL, 0}}, 0};
+    struct written written = {"line", count, {{NULL, 0}}, 0};
     size_t i = 0;
     while (i < line->length) {
         size_t start = i;
         while (i < line->length && !is_space(line->text[i]))
             i++;
-        if (i > start && written.word_count < 2)
-            written.words[written.word_count] = (struct word){line->text + start, i - start};
         if (i > start)
-            written.word_count++;
+            add_word(&written, (struct word){line->text + start, i - start});
         else
             i++;
     }
@@ -463,7 +556,7 @@ static enum status ask_line(struct host *host, const struct line *line, unsigned
     struct written written = split(line, count);
     if (line->is_too_long) {
         tell_unasked(host, &written);
-        fprintf(stderr, "too long for a question, which is 2 numbers: Q K\n");
+        fprintf(stderr, "too long for " EXPECTED "\n");
         return NOT_ASKED;
     }
     return written.word_count == 0 ? ANSWERED : ask_written(host, &written);
@@ -535,7 +628,7 @@ int main(int argc, char **argv)
         argc--;
         argv++;
     }
-    if (argc < 2 || argc % 2 != 0 || argv[1][0] == '-') {
+    if (argc < 2 || argv[1][0] == '-') {
         fputs(usage, stderr);
         return NOT_ASKED;
     }

@@ -1,5 +1,5 @@
-/* The post-road atlas for C and C++: a sheet is checked, and the k offices nearest by post road from a place of it are listed, or the
-   question is refused by a number. What is said here of numbers and of bytes is proved of both functions (docs/CONTRACTS.md);
+/* The post-road atlas for C and C++: a sheet is checked, and the k offices nearest by post road to or from a place of it are listed, or
+   the question is refused by a number. What is said here of numbers and of bytes is proved of both functions (docs/CONTRACTS.md);
    the stack is measured.
 
    ./library proves and builds libatlas.a and puts it beside this file, for the processor of the machine that builds it: x86-64 or
@@ -23,6 +23,14 @@
    1 or 2; a few small ones are read as another sheet. So keep none of them in use: their new issue is needed. A host that was compiled
    with the header of that time must be compiled again: it lends too little and is refused by 9, or, where it lends more than is needed,
    takes lines of five words for lines of four.
+
+   A QUESTION has a direction, since stages are one way and the two roads between a place and an office may differ: outward the road runs
+   from the place asked about to the office, inward from the office to the place. Where a letter was posted that came to a place is asked
+   inward.
+
+   A host that was compiled with the header from before questions had a direction must be compiled again: its call of atlas_question has
+   an argument less. A compiler refuses that call with this header, but nothing notices an old object file that is linked with this
+   archive, and what its calls then do is undefined.
 
    A ratio is a road length in furlongs over a crow distance, in 4,096ths. The crow distance of two places that are dx apart in x and dy
    in y is the largest whole number whose square is at most 4,096 * (dx^2 + dy^2): it counts in 64ths of a cell, and between different
@@ -93,7 +101,7 @@
 #define ATLAS_BAD_OFFICES 6U      /* the offices do: an office at a place not on the sheet */
 
 /* the question */
-#define ATLAS_BAD_Q 7U            /* q is not below N */
+#define ATLAS_BAD_Q 7U            /* q is not below N, or direction is neither ATLAS_OUTWARD nor ATLAS_INWARD */
 #define ATLAS_BAD_K 8U            /* k is 0 or above M */
 #define ATLAS_SHORT_SLICES 9U     /* answer, working or counts too short */
 
@@ -105,10 +113,14 @@
 #define ATLAS_UNTRUE_RATIO 14U    /* a block's ratios do not enclose the true road length */
 #define ATLAS_IDLE_BLOCK 15U      /* a block covers no place other than its own */
 
-/* the walk of a question towards an office; never on a sheet that was accepted */
+/* the walk of a question along an office's road; never on a sheet that was accepted */
 #define ATLAS_WALK_TOO_LONG 16U   /* N - 1 refinements already made for this office and another is due */
-#define ATLAS_WALK_NO_BLOCK 17U   /* no block covers the place sought */
+#define ATLAS_WALK_NO_BLOCK 17U   /* no block covers the place sought, which is the office's place outward, and q inward */
 #define ATLAS_WALK_EMPTY 18U      /* the interval or overlap is empty */
+
+/* The directions of a question. */
+#define ATLAS_OUTWARD 0U          /* the road runs from place q to the office */
+#define ATLAS_INWARD 1U           /* the road runs from the office to place q */
 
 #if defined(__cplusplus) || (defined(__STDC_VERSION__) && __STDC_VERSION__ >= 199901L)
 #define ATLAS_FUNCTION static inline
@@ -133,10 +145,11 @@ extern "C" {
    Later bytes of distances are never touched. */
 unsigned int atlas_check(const unsigned char *sheet, size_t sheet_bytes, unsigned char *distances, size_t distances_bytes);
 
-/* Lists the k offices nearest by road from place q, nearest first and at equal roads the lower number first (on an accepted sheet; on
-   any other, as its blocks have it): the number, 0 where they are listed. In order: the layout (1 to 6), 7, 8, 9, then the walk: a first
-   interval, office by office, is tested for 17, 18, a refinement for 16, 17, 18.
+/* Lists the k offices nearest by road from place q, or inward to place q, nearest first and at equal roads the lower number first (on an
+   accepted sheet; on any other, as its blocks have it): the number, 0 where they are listed. In order: the layout (1 to 6), 7, 8, 9, then
+   the walk: a first interval, office by office, is tested for 17, 18, a refinement for 16, 17, 18.
 
+   direction   ATLAS_OUTWARD or ATLAS_INWARD; else 7
    answer      at least ATLAS_ANSWER_BYTES(k) bytes; else 9
    working     at least ATLAS_WORKING_BYTES(M) bytes; else 9
    counts      at least ATLAS_COUNTS_BYTES bytes; else 9
@@ -148,9 +161,9 @@ unsigned int atlas_check(const unsigned char *sheet, size_t sheet_bytes, unsigne
                 any number      counts has two 64-bit words, as named below, both 0 after a refusal; a counts slice that is too
                                 short is untouched
    Later bytes of the three are never touched. */
-unsigned int atlas_question(const unsigned char *sheet, size_t sheet_bytes, unsigned int q, unsigned int k, unsigned char *answer,
-                            size_t answer_bytes, unsigned char *working, size_t working_bytes, unsigned char *counts,
-                            size_t counts_bytes);
+unsigned int atlas_question(const unsigned char *sheet, size_t sheet_bytes, unsigned int q, unsigned int k, unsigned int direction,
+                            unsigned char *answer, size_t answer_bytes, unsigned char *working, size_t working_bytes,
+                            unsigned char *counts, size_t counts_bytes);
 
 #ifdef __cplusplus
 }
@@ -168,7 +181,7 @@ unsigned int atlas_question(const unsigned char *sheet, size_t sheet_bytes, unsi
 #define ATLAS_WORKING_MOST 196608
 
 /* The 64-bit words of answer: listed office number j has these, counted from word j * ATLAS_LINE_WORDS. On an accepted sheet the length
-   of the shortest road lies between the two ends, ends included. */
+   of the shortest road, which runs as direction says, lies between the two ends, ends included. */
 #define ATLAS_LINE_WORDS 5
 #define ATLAS_LINE_OFFICE 0
 #define ATLAS_LINE_LOW_END 1

@@ -12,6 +12,7 @@ extern "C" {
         sheet_bytes: usize,
         q: u32,
         k: u32,
+        direction: u32,
         answer: *mut u8,
         answer_bytes: usize,
         working: *mut u8,

@@ -1,4 +1,4 @@
-//! The independent second program: answers by the plainest means, written from document 01 and items 1, 2, 8 and 11
+//! The independent second program: answers by the plainest means, written from document 01 and items 1, 2, 4, 8 and 11
 //! of document 02 alone.
 //! Its commands print what the proved program should print, make inputs, and test themselves.
 
@@ -8,13 +8,14 @@ mod selftest;
 mod tally;
 
 use inputs::make;
+use rules::asked::Asked;
 use rules::limits::*;
 use rules::{check, program, question};
 use std::io::{self, Read, Write};
 use std::path::Path;
 use std::process::ExitCode;
 
-const USAGE: &str = "usage: second answer | check | question Q K | make SEED COUNT DIR | expect DIR \
+const USAGE: &str = "usage: second answer | check | question Q K DIRECTION | make SEED COUNT DIR | expect DIR \
     | selftest [SEED COUNT]";
 
 const USUAL_SEED: u64 = 1;
@@ -43,9 +44,10 @@ fn run(words: &[&str]) -> Option<io::Result<bool>> {
     match words {
         ["answer"] => Some(standard_input().and_then(|input| say(&program::answer(&input)))),
         ["check"] => Some(standard_input().and_then(|sheet| say(&checked(&sheet)))),
-        ["question", q, k] => {
-            let (q, k) = (number(q)?, number(k)?);
-            Some(standard_input().and_then(|sheet| say(&asked(&sheet, q, k))))
+        ["question", q, k, direction] => {
+            let word = |word: &str| word.parse::<u32>().ok();
+            let asked = Asked { q: word(q)?, k: word(k)?, direction: word(direction)? };
+            Some(standard_input().and_then(|sheet| say(&answered(&sheet, asked))))
         }
         ["make", seed, count, folder] => {
             Some(make::make(number(seed)?, number(count)?, Path::new(folder)).map(|()| true))
@@ -74,9 +76,9 @@ fn checked(sheet: &[u8]) -> String {
     format!("{}\n", check::check(sheet, &mut vec![0; most * most]))
 }
 
-fn asked(sheet: &[u8], q: u64, k: u64) -> String {
+fn answered(sheet: &[u8], asked: Asked) -> String {
     let most = *OFFICES.end() as usize;
     let mut list = vec![0; ANSWER_WORDS * most];
-    let outcome = question::question(sheet, q, k, &mut list, &mut vec![0; WORKING_WORDS * most]);
+    let outcome = question::question(sheet, asked, &mut list, &mut vec![0; WORKING_WORDS * most]);
     program::printed(&outcome, &list)
 }

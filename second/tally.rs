@@ -1,15 +1,20 @@
-//! The count of cases and failures, and of how often each refusal number was met.
+//! The count of cases and failures, and of how often each number was met: of checks, and of questions in each direction.
 
+use crate::rules::asked::{Asked, NEITHER, WAYS};
+use crate::rules::program::parted;
 use crate::rules::refusal::*;
 use std::fmt;
+use std::iter::once;
+
+/// How often each number was met.
+type Met = [u64; LAST as usize + 1];
 
 #[derive(Default)]
 pub struct Tally {
     pub cases: u64,
     pub failures: Vec<String>,
-    pub acceptances: u64,
-    pub listings: u64,
-    refused: [u64; LAST as usize + 1],
+    checks: Met,
+    questions: [Met; WAYS.len()],
 }
 
 impl Tally {
@@ -27,30 +32,37 @@ impl Tally {
     }
 
     pub fn met_check(&mut self, number: Number) {
-        self.acceptances += u64::from(number == ACCEPTED);
-        self.refused[number as usize] += 1;
+        self.checks[number as usize] += 1;
     }
 
-    pub fn met_question(&mut self, number: Number) {
-        self.listings += u64::from(number == ACCEPTED);
-        self.refused[number as usize] += 1;
+    pub fn met_question(&mut self, asked: Asked, number: Number) {
+        self.questions[asked.way()][number as usize] += 1;
     }
 
-    /// What the program printed.
-    pub fn met_text(&mut self, text: &str) {
+    /// What the program printed for an input; one that is too short for a direction has neither.
+    pub fn met_text(&mut self, input: &[u8], text: &str) {
+        let way = parted(input).map_or(NEITHER, |(asked, _)| asked.way());
         let number = text.strip_prefix("refused ").map(|n| n.trim().parse().expect("a number"));
-        self.met_question(number.unwrap_or(ACCEPTED));
+        self.questions[way][number.unwrap_or(ACCEPTED) as usize] += 1;
     }
 
-    pub fn times(&self, number: Number) -> u64 {
-        self.refused[number as usize]
+    pub fn times_of_check(&self, number: Number) -> u64 {
+        self.checks[number as usize]
     }
 
-    /// One line for listings and one for each refusal number.
+    /// Of questions in one of `WAYS`.
+    pub fn times_of_question(&self, way: usize, number: Number) -> u64 {
+        self.questions[way][number as usize]
+    }
+
+    /// A line for what was not refused, and one for each refusal number.
     pub fn table(&self) -> String {
-        let mut text = format!("listings: {}\n", self.listings);
-        for number in refusals() {
-            text += &format!("refused {number}: {}\n", self.times(number));
+        let columns: Vec<(&str, &Met)> = once(("check", &self.checks)).chain(WAYS.into_iter().zip(&self.questions)).collect();
+        let mut text = String::new();
+        for number in once(ACCEPTED).chain(refusals()) {
+            let met: Vec<String> = columns.iter().map(|(name, met)| format!("{name} {}", met[number as usize])).collect();
+            let name = if number == ACCEPTED { String::from("not refused") } else { format!("refused {number}") };
+            text += &format!("{name}: {}\n", met.join(", "));
         }
         text
     }

@@ -3,12 +3,14 @@
 
 mod asked;
 mod bytes;
+mod direction;
 mod refusals;
 mod sections;
 mod text;
 mod words;
 
 use asked::Asked;
+use direction::Direction;
 use sections::{number, Sheet};
 use std::ffi::OsString;
 use std::io::{self, IsTerminal, Read, Write};
@@ -28,7 +30,17 @@ Four sections in this order, each begun by its word alone on a line, also where 
     blocks     place code level colour low high
     offices    place
 Exit status: 0 done; 1 the file is bad; 2 bad usage, or a file that cannot be read or written.
-(./ask uses two more: input SHEET Q K; words SHEET Q, which reads what the program printed.)";
+(./ask uses two more: input SHEET to|from Q K; words SHEET to|from Q, which reads what the program printed.)";
+
+const ASK_USAGE: &str = "\
+usage: ./ask SHEET to Q K      lists the K offices nearest by road to place Q: the road runs from the office to the place,
+                               as that of a letter that came to Q did
+       ./ask SHEET from Q K    lists the K offices nearest by road from place Q: the road runs from the place to the office
+SHEET is a sheet as text where its name ends in .txt, else as bytes. K is a number.
+Q is a number too, the place's on this sheet, from 0; or # and its gazetteer number, which must be quoted:
+    ./ask SHEET to '#103' K
+since the shell takes a # without quotes, and all that follows it, for a comment.
+Exit status: 0 answered; 1 refused; 2 the question could not be put.";
 
 /// What went wrong, and the exit status that tells it.
 struct Failure(u8, String);
@@ -69,8 +81,8 @@ fn run(arguments: &[OsString]) -> Result<u8, Failure> {
         }
         ("bytes", &[file, ref out @ ..]) if out.len() < 2 => put(out, &bytes::write(&from_text(file)?)),
         ("text", &[file, ref out @ ..]) if out.len() < 2 => put(out, text::write(&from_bytes(file, &get_warned(file)?)?).as_bytes()),
-        ("input", &[file, q, k]) => put(&[], &input(file, q, k)?),
-        ("words", &[file, q]) => answer(file, q),
+        ("input", question) => put(&[], &input(question)?),
+        ("words", &[file, direction, q]) => answer(file, direction, q),
         _ => Err(Failure(BAD_USAGE, USAGE.to_string())),
     }
 }
@@ -127,20 +139,43 @@ fn place(q: Asked, sheet: &[u8]) -> Result<u32, Failure> {
     q.place(&whole).map_err(bad("Q"))
 }
 
-/// The program's input: q and k, then the sheet. Bytes go as they are, so that the program sees their faults.
-fn input(file: &Path, q: &Path, k: &Path) -> Result<Vec<u8>, Failure> {
+fn read_direction(written: &Path) -> Option<Direction> {
+    direction::read(&written.to_string_lossy())
+}
+
+/// What keeps the words from being a question: a sheet, a direction, Q and K.
+fn no_question(words: &[&Path]) -> Failure {
+    let fault = match *words {
+        [_, word, ..] if read_direction(word).is_none() => format!(
+            "to or from, in small letters, is missing where \"{}\" stands: it says which way the road runs",
+            word.display()
+        ),
+        [_, _, _, _, word, ..] => format!("\"{}\" stands after K, where a question ends", word.display()),
+        [_, word, ..] => format!("Q or K is missing after {}", word.display()),
+        _ => "a question is a sheet, then to or from, then Q and K".to_string(),
+    };
+    Failure(BAD_USAGE, format!("{fault}\n{ASK_USAGE}"))
+}
+
+/// The program's input: q, k and the direction, then the sheet. Bytes go as they are, so that the program sees their faults.
+fn input(words: &[&Path]) -> Result<Vec<u8>, Failure> {
+    let &[file, direction, q, k] = words else {
+        return Err(no_question(words));
+    };
+    let direction = read_direction(direction).ok_or_else(|| no_question(words))?;
     let q = asked::read(&q.to_string_lossy()).map_err(bad("Q"))?;
     let k = number(&k.to_string_lossy()).map_err(bad("K"))?;
     let sheet = if is_text(file) { bytes::write(&from_text(file)?) } else { get_warned(file)? };
-    let mut input = bytes::bytes_of(&[place(q, &sheet)?, k]);
+    let mut input = bytes::bytes_of(&[place(q, &sheet)?, k, direction.number]);
     input.extend(sheet);
     Ok(input)
 }
 
 /// Tells what the program printed about a sheet.
-fn answer(file: &Path, q: &Path) -> Result<u8, Failure> {
+fn answer(file: &Path, direction: &Path, q: &Path) -> Result<u8, Failure> {
     let strange = |printed: &str| Failure(BAD_USAGE, format!("the program printed what is no answer: {printed:?}"));
     let mut printed = String::new();
+    let direction = read_direction(direction).ok_or_else(|| no_question(&[file, direction, q]))?;
     let q = asked::read(&q.to_string_lossy()).map_err(bad("Q"))?;
     io::stdin().read_to_string(&mut printed).map_err(|_| strange("not text"))?;
     let (text, status) = match words::read(&printed) {
@@ -148,7 +183,7 @@ fn answer(file: &Path, q: &Path) -> Result<u8, Failure> {
         Some(words::Answer::Listed { lines, refinements }) => {
             let sheet = if is_text(file) { from_text(file)? } else { from_bytes(file, &get(file)?)? };
             let q = q.place(&sheet).map_err(bad("Q"))?;
-            (words::listed(&sheet, q, &lines, refinements), 0)
+            (words::listed(&sheet, &direction, q, &lines, refinements), 0)
         }
         None => (None, BAD_USAGE),
     };

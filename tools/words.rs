@@ -1,5 +1,6 @@
 //! What the program printed, in words.
 
+use crate::direction::Direction;
 use crate::refusals::refusal;
 use crate::sections::Sheet;
 
@@ -40,12 +41,13 @@ pub fn refused(number: u64) -> Option<String> {
 }
 
 /// A list in words, or nothing where it names a place or an office that the sheet has not.
-pub fn listed(sheet: &Sheet, q: u32, lines: &[Line], refinements: u64) -> Option<String> {
-    let from = format!("nearest by road from place {q} (#{})", sheet.gazetteer_of_place(q)?);
-    let mut text = match lines.len() {
-        1 => format!("The office {from}:\n"),
-        count => format!("The {count} offices {from}:\n"),
+pub fn listed(sheet: &Sheet, direction: &Direction, q: u32, lines: &[Line], refinements: u64) -> Option<String> {
+    let asked = format!("{} place {q} (#{})", direction.word, sheet.gazetteer_of_place(q)?);
+    let offices = match lines.len() {
+        1 => "The office".to_string(),
+        count => format!("The {count} offices"),
     };
+    let mut text = format!("{offices} nearest by road {asked}, the road running {}:\n", direction.road);
     for (index, [number, low, high, stages, gazetteer]) in lines.iter().enumerate() {
         let place = sheet.place_of_office(*number)?;
         let length = length(*low, *high);

@@ -1,6 +1,8 @@
 //! What every check and every question begins with, once the layout was looked at.
 
 use crate::plain::sections::Sections;
+use crate::rules::asked::Asked;
+use crate::rules::limits::DIRECTIONS;
 use crate::rules::question::Outcome;
 use crate::rules::refusal::*;
 
@@ -24,21 +26,20 @@ pub fn checked(
 /// The question: 7, 8, or what the walk comes to, which gives its refinements.
 pub fn asked(
     laid: Result<Sections, Number>,
-    q: u32,
-    k: u32,
-    walk: impl FnOnce(&Sections, usize, usize) -> Result<u64, Number>,
+    asked: Asked,
+    walk: impl FnOnce(&Sections) -> Result<u64, Number>,
 ) -> Outcome {
     let walked = laid.and_then(|sections| {
-        if q as usize >= sections.place_count() {
-            return Err(BAD_Q);
+        if asked.q as usize >= sections.place_count() || !DIRECTIONS.contains(&asked.direction) {
+            return Err(BAD_Q_OR_DIRECTION);
         }
-        if k == 0 || k as usize > sections.office_count() {
+        if asked.k == 0 || asked.k as usize > sections.office_count() {
             return Err(BAD_K);
         }
-        walk(&sections, q as usize, k as usize)
+        walk(&sections)
     });
     match walked {
-        Ok(refinements) => Outcome { number: ACCEPTED, count: u64::from(k), refinements },
+        Ok(refinements) => Outcome { number: ACCEPTED, count: u64::from(asked.k), refinements },
         Err(number) => Outcome::refused(number),
     }
 }

@@ -9,11 +9,13 @@ use crate::plain::roads::Roads;
 use crate::plain::sections::Sections;
 use crate::plain::tournament::Tournament;
 use crate::plain::trail::{key, office_of, Ends, Trail};
+use crate::rules::asked::Asked;
 use crate::rules::limits::ANSWER_WORDS;
 use crate::rules::question::Outcome;
 use crate::rules::refusal::*;
 
 struct Walk<'a> {
+    asked: Asked,
     sections: &'a Sections<'a>,
     blocks: Blocks<'a>,
     roads: Roads,
@@ -21,26 +23,27 @@ struct Walk<'a> {
     waiting: Tournament,
 }
 
-pub fn question(sheet: &[u8], q: u32, k: u32, answer: &mut [u64]) -> Outcome {
-    asked(layout::same_method(sheet), q, k, |sections, q, k| Walk::start(sections, q)?.list(k, answer))
+pub fn question(sheet: &[u8], question: Asked, answer: &mut [u64]) -> Outcome {
+    asked(layout::same_method(sheet), question, |sections| Walk::start(sections, question)?.list(answer))
 }
 
 impl<'a> Walk<'a> {
-    fn start(sections: &'a Sections<'a>, q: usize) -> Result<Walk<'a>, Number> {
+    fn start(sections: &'a Sections<'a>, asked: Asked) -> Result<Walk<'a>, Number> {
         let blocks = Blocks::of(sections.blocks);
         let roads = Roads::of(sections);
         let mut trails = Vec::with_capacity(sections.office_count());
         for office in 0..sections.office_count() {
-            trails.push(Trail::first(q, interval(sections, blocks, q, sections.stand(office))?)?);
+            let (via, sought) = asked.road(sections.stand(office));
+            trails.push(Trail::first(via, interval(sections, blocks, via, sought)?)?);
         }
         let waiting = Tournament::of(trails.iter().enumerate().map(|(office, trail)| key(trail.low, office)));
-        Ok(Walk { sections, blocks, roads, trails, waiting })
+        Ok(Walk { asked, sections, blocks, roads, trails, waiting })
     }
 
     /// Lists k offices, and gives the refinements made.
-    fn list(mut self, k: usize, answer: &mut [u64]) -> Result<u64, Number> {
+    fn list(mut self, answer: &mut [u64]) -> Result<u64, Number> {
         let mut refinements = 0;
-        for line in answer.chunks_exact_mut(ANSWER_WORDS).take(k) {
+        for line in answer.chunks_exact_mut(ANSWER_WORDS).take(self.asked.k as usize) {
             loop {
                 let office = office_of(self.waiting.least());
                 let (trail, stand) = (self.trails[office], self.sections.stand(office));
@@ -49,7 +52,7 @@ impl<'a> Walk<'a> {
                     line.copy_from_slice(&trail.line(office, self.sections.gazetteer(stand)));
                     break;
                 }
-                let trail = self.refined(trail, stand)?;
+                let trail = self.refined(trail, self.asked.road(stand).1)?;
                 self.trails[office] = trail;
                 self.waiting.change(office, key(trail.low, office));
                 refinements += 1;

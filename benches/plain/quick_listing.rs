@@ -1,5 +1,6 @@
-//! The same listing by the fastest means found: first intervals by a search over q's own blocks, each block kept for the
-//! refinement that follows, and the few stages that are walked looked up in the sheet.
+//! The same listing by the fastest means found: one first interval for all offices of a place, outward by a search over
+//! q's own blocks, each block kept for the refinement that follows, and the few stages that are walked looked up in the
+//! sheet.
 
 use crate::plain::blocks::Blocks;
 use crate::plain::entry::asked;
@@ -7,7 +8,8 @@ use crate::plain::layout;
 use crate::plain::measure::{quick_crow, Cell};
 use crate::plain::sections::{records_before, word, Sections, STAGE_BYTES};
 use crate::plain::trail::{key, office_of, Trail};
-use crate::rules::limits::ANSWER_WORDS;
+use crate::rules::asked::Asked;
+use crate::rules::limits::{ANSWER_WORDS, OUTWARD};
 use crate::rules::question::Outcome;
 use crate::rules::refusal::*;
 use std::cmp::Reverse;
@@ -22,32 +24,48 @@ struct Slot {
 }
 
 struct Walk<'a> {
+    asked: Asked,
     sections: &'a Sections<'a>,
     blocks: Blocks<'a>,
     slots: Vec<Slot>,
     waiting: BinaryHeap<Reverse<u64>>,
 }
 
-pub fn question(sheet: &[u8], q: u32, k: u32, answer: &mut [u64]) -> Outcome {
-    asked(layout::best(sheet), q, k, |sections, q, k| Walk::start(sections, q)?.list(k, answer))
+pub fn question(sheet: &[u8], question: Asked, answer: &mut [u64]) -> Outcome {
+    asked(layout::best(sheet), question, |sections| Walk::start(sections, question)?.list(answer))
 }
 
 impl<'a> Walk<'a> {
-    fn start(sections: &'a Sections<'a>, q: usize) -> Result<Walk<'a>, Number> {
+    fn start(sections: &'a Sections<'a>, asked: Asked) -> Result<Walk<'a>, Number> {
         let blocks = Blocks::of(sections.blocks);
         let offices = sections.office_count();
         let mut walk =
-            Walk { sections, blocks, slots: Vec::with_capacity(offices), waiting: BinaryHeap::new() };
-        let tree = blocks.tree(q);
+            Walk { asked, sections, blocks, slots: Vec::with_capacity(offices), waiting: BinaryHeap::new() };
+        // Inward each office has a tree of its own, and to find that takes as long as to search all blocks.
+        let among = if asked.direction == OUTWARD { blocks.tree(asked.q as usize) } else { 0..blocks.count() };
         let mut keys = Vec::with_capacity(offices);
+        // By the place where an office stands.
+        let mut firsts = vec![None; sections.place_count()];
         for office in 0..offices {
-            let (ends, block) = walk.interval(tree.clone(), q, sections.stand(office))?;
-            let trail = Trail::first(q, ends)?;
-            walk.slots.push(Slot { trail, block });
-            keys.push(Reverse(key(trail.low, office)));
+            let stand = sections.stand(office);
+            let slot = match firsts[stand] {
+                Some(slot) => slot,
+                None => walk.first(among.clone(), stand)?,
+            };
+            firsts[stand] = Some(slot);
+            walk.slots.push(slot);
+            keys.push(Reverse(key(slot.trail.low, office)));
         }
         walk.waiting = BinaryHeap::from(keys);
         Ok(walk)
+    }
+
+    /// How each office at this place begins.
+    #[inline(always)]
+    fn first(&self, among: Range<usize>, stand: usize) -> Result<Slot, Number> {
+        let (via, sought) = self.asked.road(stand);
+        let (ends, block) = self.interval(among, via, sought)?;
+        Ok(Slot { trail: Trail::first(via, ends)?, block })
     }
 
     /// The ends, and the block among these that gives them.
@@ -62,9 +80,9 @@ impl<'a> Walk<'a> {
     }
 
     /// Lists k offices, and gives the refinements made.
-    fn list(mut self, k: usize, answer: &mut [u64]) -> Result<u64, Number> {
+    fn list(mut self, answer: &mut [u64]) -> Result<u64, Number> {
         let mut refinements = 0;
-        for line in answer.chunks_exact_mut(ANSWER_WORDS).take(k) {
+        for line in answer.chunks_exact_mut(ANSWER_WORDS).take(self.asked.k as usize) {
             loop {
                 let office = office_of(self.waiting.as_slice()[0].0);
                 let (slot, stand) = (self.slots[office], self.sections.stand(office));
@@ -73,7 +91,7 @@ impl<'a> Walk<'a> {
                     self.waiting.pop();
                     break;
                 }
-                let slot = self.refined(slot, stand)?;
+                let slot = self.refined(slot, self.asked.road(stand).1)?;
                 self.slots[office] = slot;
                 *self.waiting.peek_mut().expect("the leader") = Reverse(key(slot.trail.low, office));
                 refinements += 1;

@@ -30,8 +30,8 @@ pub fn office_of(key: u64) -> usize {
 
 impl Trail {
     #[inline(always)]
-    pub fn first(q: usize, (low, high): Ends) -> Result<Trail, Number> {
-        Trail { via: q, walked: 0, low, high, stages: 0 }.tested()
+    pub fn first(via: usize, (low, high): Ends) -> Result<Trail, Number> {
+        Trail { via, walked: 0, low, high, stages: 0 }.tested()
     }
 
     /// One stage further: of the interval from there and the old one the overlap is kept.

@@ -3,12 +3,14 @@
 use crate::inputs::damage;
 use crate::inputs::draw::trees::quarters;
 use crate::inputs::draw::{ask_well, Plan};
+use crate::inputs::marked;
 use crate::inputs::rng::Rng;
+use crate::rules::asked::Asked;
 use crate::rules::limits::*;
 use crate::rules::program::input_of;
-use crate::rules::sheet::{Block, Sheet};
+use crate::rules::sheet::{bytes_of, Block, Sheet};
 
-pub const KINDS: usize = 15;
+pub const KINDS: usize = 19;
 
 pub fn input(rng: &mut Rng, kind: usize) -> Vec<u8> {
     match kind {
@@ -26,15 +28,19 @@ pub fn input(rng: &mut Rng, kind: usize) -> Vec<u8> {
         11 => lean_damaged(rng, PROGRAM_PLACES, PROGRAM_OFFICES),
         12 => short(rng),
         13 => fat(rng),
+        14 => cut(rng, PROGRAM_HEAD_BYTES - 1),
+        15 => cut(rng, PROGRAM_HEAD_BYTES),
+        16 => cut(rng, PROGRAM_HEAD_BYTES - WORD_BYTES),
+        17 => of_two_words(rng),
         _ => zeros(rng),
     }
 }
 
 fn asked(rng: &mut Rng, sheet: &Sheet) -> Vec<u8> {
-    let (q, k) = ask_well(rng, sheet);
+    let asked = ask_well(rng, sheet);
     // A few answers are enough on a large sheet, now and then all of them.
-    let k = if rng.chance(12) { k.min(9) } else { k };
-    input_of(q, k, &sheet.to_bytes())
+    let k = if rng.chance(12) { asked.k.min(9) } else { asked.k };
+    input_of(Asked { k, ..asked }, &sheet.to_bytes())
 }
 
 fn lean(rng: &mut Rng, places: usize, offices: usize) -> Vec<u8> {
@@ -87,6 +93,22 @@ fn split(sheet: &mut Sheet, at: usize) {
 fn short(rng: &mut Rng) -> Vec<u8> {
     let length = rng.below(PROGRAM_HEAD_BYTES + 2 * WORD_BYTES);
     (0..length).map(|_| rng.pick(&[0, 0, 1, 255])).collect()
+}
+
+/// So many bytes of a good input: 20 while a direction is not whole, then a sheet without a byte.
+fn cut(rng: &mut Rng, length: usize) -> Vec<u8> {
+    let mut input = asked(rng, &marked::sheet());
+    input.truncate(length);
+    input
+}
+
+/// An input of the time before item 4, without a direction: the count of places is read for it.
+pub fn of_two_words(rng: &mut Rng) -> Vec<u8> {
+    let sheet = Plan::any(rng).sheet(rng);
+    let Asked { q, k, .. } = ask_well(rng, &sheet);
+    let mut input = bytes_of(&[q, k]);
+    input.extend(sheet.to_bytes());
+    input
 }
 
 /// A true sheet of no more places than allowed but of far too many blocks.

@@ -30,23 +30,23 @@ pub fn input(seed: u64, index: u64, edges: &[Edge]) -> Vec<u8> {
         1 | 5 => {
             let sheet = true_sheet(&mut rng);
             let damaged = damage::damaged(&mut rng, &sheet);
-            let (q, k) = ask(&mut rng, &damaged);
-            input_of(q, k, &damaged.to_bytes())
+            let asked = ask(&mut rng, &damaged);
+            input_of(asked, &damaged.to_bytes())
         }
         3 => {
-            let (q, k) = ask(&mut rng, &marked::sheet());
-            input_of(q, k, &edges[turn % edges.len()].sheet)
+            let asked = ask(&mut rng, &marked::sheet());
+            input_of(asked, &edges[turn % edges.len()].sheet)
         }
         7 if turn.is_multiple_of(4) => limit_cases::input(&mut rng, turn / 4 % limit_cases::KINDS),
         7 => {
             let sheet = true_sheet(&mut rng);
-            let (q, k) = ask(&mut rng, &sheet);
-            input_of(q, k, &damage::bytes::damaged(&mut rng, &sheet))
+            let asked = ask(&mut rng, &sheet);
+            input_of(asked, &damage::bytes::damaged(&mut rng, &sheet))
         }
         _ => {
             let sheet = true_sheet(&mut rng);
-            let (q, k) = ask(&mut rng, &sheet);
-            input_of(q, k, &sheet.to_bytes())
+            let asked = ask(&mut rng, &sheet);
+            input_of(asked, &sheet.to_bytes())
         }
     }
 }
@@ -63,8 +63,9 @@ pub fn expect(folder: &Path) -> io::Result<Tally> {
     inputs.sort();
     let mut tally = Tally::default();
     for path in inputs {
-        let text = answer(&fs::read(&path)?);
-        tally.met_text(&text);
+        let input = fs::read(&path)?;
+        let text = answer(&input);
+        tally.met_text(&input, &text);
         fs::write(path.with_extension("want"), text)?;
     }
     Ok(tally)

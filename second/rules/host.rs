@@ -1,5 +1,6 @@
 //! Item 1 of document 02: the check and the question as a C host has them, every lent word as bytes, low byte first.
 
+use crate::rules::asked::Asked;
 use crate::rules::check;
 use crate::rules::limits::*;
 use crate::rules::question;
@@ -15,19 +16,17 @@ pub fn check(sheet: &[u8], distances: &mut [u8]) -> Number {
 
 pub fn question(
     sheet: &[u8],
-    q: u32,
-    k: u32,
+    asked: Asked,
     answer: &mut [u8],
     working: &mut [u8],
     counts: &mut [u8],
 ) -> Number {
-    let (q, k) = (u64::from(q), u64::from(k));
     if counts.len() < COUNT_WORDS * LONG_WORD_BYTES {
         // 9 for the counts is due when 9 for an empty answer is: k is at least 1 by then.
-        return question::question(sheet, q, k, &mut [], &mut []).number;
+        return question::question(sheet, asked, &mut [], &mut []).number;
     }
     let (mut list, mut notes) = (long_words_of(answer), long_words_of(working));
-    let outcome = question::question(sheet, q, k, &mut list, &mut notes);
+    let outcome = question::question(sheet, asked, &mut list, &mut notes);
     put(answer, list.into_iter().map(u64::to_le_bytes));
     put(working, notes.into_iter().map(u64::to_le_bytes));
     put(counts, [outcome.count, outcome.refinements].into_iter().map(u64::to_le_bytes));

@@ -27,13 +27,19 @@ pub const LEAVING_MOST: usize = 8;
 pub const RATIO_UNIT: u64 = 4_096;
 pub const CROW_SCALE: u64 = 4_096;
 
+// Directions of a question: from its place to the offices, and from the offices to its place.
+pub const OUTWARD: u32 = 0;
+pub const INWARD: u32 = 1;
+pub const DIRECTIONS: [u32; 2] = [OUTWARD, INWARD];
+
 // Slices lent to a question, in long words; a C host lends the counts too.
 pub const ANSWER_WORDS: usize = 5;
 pub const WORKING_WORDS: usize = 6;
 pub const COUNT_WORDS: usize = 2;
 
 // The program's own limits.
-pub const PROGRAM_HEAD_BYTES: usize = 2 * WORD_BYTES;
+pub const PROGRAM_HEAD_WORDS: usize = 3;
+pub const PROGRAM_HEAD_BYTES: usize = PROGRAM_HEAD_WORDS * WORD_BYTES;
 pub const PROGRAM_SHEET_BYTES: usize = 65_536;
 pub const PROGRAM_PLACES: usize = 128;
 pub const PROGRAM_OFFICES: usize = 1_024;

@@ -1,6 +1,7 @@
-//! Document 01 as items 2, 8 and 11 of document 02 leave it: its numbers, the sheet, the measures, the check, the
+//! Document 01 as items 2, 4, 8 and 11 of document 02 leave it: its numbers, the sheet, the measures, the check, the
 //! question and the program; and item 1 of document 02.
 
+pub mod asked;
 pub mod check;
 pub mod host;
 pub mod layout;

@@ -1,5 +1,6 @@
 //! The program of the paper as a function from its standard input to what it prints.
 
+use crate::rules::asked::Asked;
 use crate::rules::check::check;
 use crate::rules::layout;
 use crate::rules::limits::*;
@@ -10,18 +11,18 @@ use crate::rules::sheet::{bytes_of, words_of};
 pub fn answer(input: &[u8]) -> String {
     let mut list = vec![0; ANSWER_WORDS * PROGRAM_OFFICES];
     let outcome = match before_asking(input) {
-        Ok((q, k, sheet)) => {
+        Ok((asked, sheet)) => {
             let mut working = vec![0; WORKING_WORDS * PROGRAM_OFFICES];
-            question(sheet, q, k, &mut list, &mut working)
+            question(sheet, asked, &mut list, &mut working)
         }
         Err(number) => Outcome::refused(number),
     };
     printed(&outcome, &list)
 }
 
-/// Size, layout, limits, check; then q, k and the sheet's bytes.
-fn before_asking(input: &[u8]) -> Result<(u64, u64, &[u8]), Number> {
-    let (head, sheet) = input.split_at_checked(PROGRAM_HEAD_BYTES).ok_or(PROGRAM_LIMIT)?;
+/// Size, layout, limits, check; then what is asked and the sheet's bytes.
+fn before_asking(input: &[u8]) -> Result<(Asked, &[u8]), Number> {
+    let (asked, sheet) = parted(input).ok_or(PROGRAM_LIMIT)?;
     if sheet.len() > PROGRAM_SHEET_BYTES {
         return Err(PROGRAM_LIMIT);
     }
@@ -34,8 +35,14 @@ fn before_asking(input: &[u8]) -> Result<(u64, u64, &[u8]), Number> {
     if number != ACCEPTED {
         return Err(number);
     }
+    Ok((asked, sheet))
+}
+
+/// What an input asks and its sheet's bytes, unless it is too short.
+pub fn parted(input: &[u8]) -> Option<(Asked, &[u8])> {
+    let (head, sheet) = input.split_at_checked(PROGRAM_HEAD_BYTES)?;
     let words = words_of(head);
-    Ok((u64::from(words[0]), u64::from(words[1]), sheet))
+    Some((Asked { q: words[0], k: words[1], direction: words[2] }, sheet))
 }
 
 /// The listing or the refusal, every line ended by a line feed.
@@ -52,9 +59,9 @@ pub fn printed(outcome: &Outcome, list: &[u64]) -> String {
     text
 }
 
-/// The input of the program: two words, then the sheet.
-pub fn input_of(q: u32, k: u32, sheet: &[u8]) -> Vec<u8> {
-    let mut input = bytes_of(&[q, k]);
+/// The input of the program: three words, then the sheet.
+pub fn input_of(asked: Asked, sheet: &[u8]) -> Vec<u8> {
+    let mut input = bytes_of(&[asked.q, asked.k, asked.direction]);
     input.extend(sheet);
     input
 }

@@ -1,5 +1,6 @@
 //! The question: the layout, refusals 7 to 9, then the walk that lists the k nearest offices.
 
+use crate::rules::asked::Asked;
 use crate::rules::layout;
 use crate::rules::limits::*;
 use crate::rules::map::Map;
@@ -25,7 +26,10 @@ impl Outcome {
 #[derive(Clone, Copy, PartialEq, Debug)]
 pub struct Waiting {
     pub number: usize,
-    pub place: usize,
+    /// The place where it stands.
+    pub stand: usize,
+    /// The place to which its road runs.
+    pub sought: usize,
     pub via: usize,
     pub walked: u64,
     pub stages: u64,
@@ -45,14 +49,13 @@ impl Waiting {
 /// Told of every refinement that is due: the office before it, and what comes of it.
 pub type Watch<'a> = &'a mut dyn FnMut(&Waiting, &Result<Waiting, Number>);
 
-pub fn question(bytes: &[u8], q: u64, k: u64, answer: &mut [u64], working: &mut [u64]) -> Outcome {
-    question_watched(bytes, q, k, answer, working, &mut |_, _| {})
+pub fn question(bytes: &[u8], asked: Asked, answer: &mut [u64], working: &mut [u64]) -> Outcome {
+    question_watched(bytes, asked, answer, working, &mut |_, _| {})
 }
 
 pub fn question_watched(
     bytes: &[u8],
-    q: u64,
-    k: u64,
+    asked: Asked,
     answer: &mut [u64],
     working: &mut [u64],
     watch: Watch,
@@ -61,13 +64,14 @@ pub fn question_watched(
         Ok(sheet) => sheet,
         Err(number) => return Outcome::refused(number),
     };
-    if q >= sheet.places.len() as u64 {
-        return Outcome::refused(BAD_Q);
+    if asked.q as usize >= sheet.places.len() || !DIRECTIONS.contains(&asked.direction) {
+        return Outcome::refused(BAD_Q_OR_DIRECTION);
     }
-    if k == 0 || k > sheet.offices.len() as u64 {
+    let k = asked.k as usize;
+    if k == 0 || k > sheet.offices.len() {
         return Outcome::refused(BAD_K);
     }
-    let answer_words = ANSWER_WORDS * k as usize;
+    let answer_words = ANSWER_WORDS * k;
     let working_words = WORKING_WORDS * sheet.offices.len();
     if answer.len() < answer_words || working.len() < working_words {
         return Outcome::refused(SHORT_SLICES);
@@ -75,28 +79,28 @@ pub fn question_watched(
     // The working words end as 0 on every way out of the walk, which keeps its own notes.
     working[..working_words].fill(0);
     answer[..answer_words].fill(0);
-    match walk(&Map::of(&sheet), q as usize, k as usize, watch) {
+    match walk(&Map::of(&sheet), asked, watch) {
         Ok((list, refinements)) => {
             for (words, office) in answer.chunks_mut(ANSWER_WORDS).zip(&list) {
                 words.copy_from_slice(&answer_record(&sheet, office));
             }
-            Outcome { number: ACCEPTED, count: k, refinements }
+            Outcome { number: ACCEPTED, count: k as u64, refinements }
         }
         Err(number) => Outcome::refused(number),
     }
 }
 
 fn answer_record(sheet: &Sheet, office: &Waiting) -> [u64; ANSWER_WORDS] {
-    let gazetteer = u64::from(sheet.places[office.place].gazetteer);
+    let gazetteer = u64::from(sheet.places[office.stand].gazetteer);
     [office.number as u64, office.interval.low, office.interval.high, office.stages, gazetteer]
 }
 
 /// The offices listed, in order, and the total of refinements; k is at most the offices.
-fn walk(map: &Map, q: usize, k: usize, watch: Watch) -> Result<(Vec<Waiting>, u64), Number> {
-    let mut waiting = start(map, q)?;
+fn walk(map: &Map, asked: Asked, watch: Watch) -> Result<(Vec<Waiting>, u64), Number> {
+    let mut waiting = start(map, asked)?;
     let mut list = Vec::new();
     let mut refinements = 0;
-    while list.len() < k {
+    while list.len() < asked.k as usize {
         let leader = leader_among(&waiting);
         if comes_before_all_others(&waiting, leader) {
             list.push(waiting.remove(leader));
@@ -111,12 +115,13 @@ fn walk(map: &Map, q: usize, k: usize, watch: Watch) -> Result<(Vec<Waiting>, u6
 }
 
 /// Every office with its first interval, both tests for one before the next.
-pub fn start(map: &Map, q: usize) -> Result<Vec<Waiting>, Number> {
+pub fn start(map: &Map, asked: Asked) -> Result<Vec<Waiting>, Number> {
     let mut waiting = Vec::new();
-    for (number, &place) in map.sheet.offices.iter().enumerate() {
-        let place = place as usize;
-        let interval = kept(map.interval(q, place).ok_or(WALK_NO_BLOCK)?)?;
-        waiting.push(Waiting { number, place, via: q, walked: 0, stages: 0, interval });
+    for (number, &stand) in map.sheet.offices.iter().enumerate() {
+        let stand = stand as usize;
+        let (via, sought) = asked.road(stand);
+        let interval = kept(map.interval(via, sought).ok_or(WALK_NO_BLOCK)?)?;
+        waiting.push(Waiting { number, stand, sought, via, walked: 0, stages: 0, interval });
     }
     Ok(waiting)
 }
@@ -141,11 +146,11 @@ pub fn refine(map: &Map, office: &Waiting) -> Result<Waiting, Number> {
     if office.stages + 1 >= map.places() as u64 {
         return Err(WALK_TOO_LONG);
     }
-    let block = map.covering(office.via, office.place).ok_or(WALK_NO_BLOCK)?;
+    let block = map.covering(office.via, office.sought).ok_or(WALK_NO_BLOCK)?;
     let stage = map.stage_named(block);
     let walked = office.walked + u64::from(stage.length);
     let via = stage.head as usize;
-    let onward = map.interval(via, office.place).ok_or(WALK_NO_BLOCK)?.beyond(walked);
+    let onward = map.interval(via, office.sought).ok_or(WALK_NO_BLOCK)?.beyond(walked);
     let interval = kept(office.interval.overlap(onward))?;
     Ok(Waiting { via, walked, stages: office.stages + 1, interval, ..*office })
 }

@@ -1,11 +1,12 @@
 //! Self test, part 2: on accepted sheets the list is that of brute force, and no refinement is wasted.
 
+use crate::rules::asked::Asked;
 use crate::rules::limits::*;
 use crate::rules::question::{question_watched, Waiting};
 use crate::rules::refusal::Number;
 use crate::rules::sheet::{words_of, Sheet};
-use crate::selftest::oracle::{road, Road};
-use crate::selftest::plain::roads_from;
+use crate::selftest::oracle::{road, from_and_to, Road};
+use crate::selftest::plain;
 use crate::tally::Tally;
 
 /// One question on an accepted sheet, with all that was seen of it.
@@ -15,22 +16,24 @@ struct Seen<'a> {
     list: Vec<u64>,
     total: u64,
     steps: Vec<(Waiting, Waiting)>,
+    /// For each place, how far an office there is in the direction of the question, and its named road.
     distances: Vec<u64>,
     roads: Vec<Road>,
 }
 
-pub fn hold(tally: &mut Tally, name: &str, sheet: &Sheet, q: usize, k: usize) {
-    let mut list = vec![0; ANSWER_WORDS * k];
+pub fn hold(tally: &mut Tally, name: &str, sheet: &Sheet, asked: Asked) {
+    let mut list = vec![0; ANSWER_WORDS * asked.k as usize];
     let mut working = vec![0; WORKING_WORDS * sheet.offices.len()];
     let mut steps = Vec::new();
     let mut watch = |before: &Waiting, after: &Result<Waiting, Number>| {
         steps.push((*before, after.expect("an accepted sheet")));
     };
     let bytes = sheet.to_bytes();
-    let outcome = question_watched(&bytes, q as u64, k as u64, &mut list, &mut working, &mut watch);
-    let known = roads_from(sheet, q);
-    let distances = known.iter().map(|d| d.expect("an accepted sheet") as u64).collect();
-    let roads = (0..sheet.places.len()).map(|v| road(sheet, q, v)).collect();
+    let outcome = question_watched(&bytes, asked, &mut list, &mut working, &mut watch);
+    let known = plain::roads(sheet);
+    let runs: Vec<(usize, usize)> = (0..sheet.places.len()).map(|stand| from_and_to(asked, stand)).collect();
+    let distances = runs.iter().map(|&(from, to)| known[from][to].expect("an accepted sheet") as u64).collect();
+    let roads = runs.iter().map(|&(from, to)| road(sheet, from, to)).collect();
     let seen = Seen { sheet, words: words_of(&bytes), list, total: outcome.refinements, steps, distances, roads };
     seen.nearest_are_listed(tally, name);
     seen.steps_narrow(tally, name);
@@ -81,9 +84,9 @@ impl Seen<'_> {
             tally.claim(narrows, || format!("{name}: a refinement of {} widens", before.number));
             let encloses = new.low <= distance && distance <= new.high;
             tally.claim(encloses, || format!("{name}: a refinement of {} loses D", before.number));
-            let moved = before.via != before.place && after.stages == before.stages + 1;
+            let moved = before.via != before.sought && after.stages == before.stages + 1;
             tally.claim(moved, || format!("{name}: {} was refined where it had arrived", before.number));
-            let arrived = after.via == after.place;
+            let arrived = after.via == after.sought;
             tally.claim(!arrived || new.low == new.high, || format!("{name}: arrived with open ends"));
         }
     }
@@ -92,7 +95,7 @@ impl Seen<'_> {
         for (place, road) in self.roads.iter().enumerate() {
             let length = i128::from(self.distances[place]);
             let shortest = road.arrives && road.ends.last() == Some(&Ok((length, length)));
-            tally.claim(shortest, || format!("{name}: the named road to {place}"));
+            tally.claim(shortest, || format!("{name}: the named road of {place}"));
         }
     }
 

@@ -1,7 +1,10 @@
 //! Self test: what a C host's bytes hold after the check and the question, by hand from the marked sheet: N = 4, M = 3.
 
+use crate::inputs::draw::NO_DIRECTIONS;
 use crate::inputs::marked::{self, block, place, stage};
+use crate::rules::asked::Asked;
 use crate::rules::host::{check, question};
+use crate::rules::limits::DIRECTIONS;
 use crate::rules::refusal::Number;
 use crate::rules::sheet::Sheet;
 use crate::tally::Tally;
@@ -53,13 +56,13 @@ fn asks(
     tally: &mut Tally,
     name: &str,
     sheet: &[u8],
-    (q, k): (u32, u32),
+    asked: Asked,
     lengths: [usize; 3],
     due: (Number, [&[u8]; 3]),
 ) {
     let [mut answer, mut working, mut counts] = lengths.map(before);
-    let number = question(sheet, q, k, &mut answer, &mut working, &mut counts);
-    tally.met_question(number);
+    let number = question(sheet, asked, &mut answer, &mut working, &mut counts);
+    tally.met_question(asked, number);
     tally.same(name, number, due.0);
     for (i, found) in [answer, working, counts].into_iter().enumerate() {
         tally.same(&format!("{name}: {}", NAMES[i]), found, begun(due.1[i], lengths[i]));
@@ -119,25 +122,33 @@ fn no_table(tally: &mut Tally) {
 }
 
 fn listings(tally: &mut Tally) {
+    listings_of(tally, Asked::outward, [2, 5, 5, 1, 102, 0, 11, 11, 2, 101], [5, 1]);
+    listings_of(tally, Asked::inward, [2, 5, 5, 0, 102, 0, 11, 11, 0, 101], [0, 0]);
+}
+
+/// The marked questions of one direction: the list of two offices, and the refinements for two and for one.
+fn listings_of(tally: &mut Tally, ask: fn(u32, u32) -> Asked, list: [u8; 10], [for_two, for_one]: [u8; 2]) {
     let sheet = marked::sheet().to_bytes();
-    let list = long_bytes(&[2, 5, 5, 1, 102, 0, 11, 11, 2, 101]);
-    let counts = long_bytes(&[2, 5]);
+    let list = long_bytes(&list);
+    let counts = long_bytes(&[2, for_two]);
     for more in [[0, 0, 0], [1, 0, 0], [0, 1, 0], [0, 0, 1], [7, 5, 3], [8, 8, 8], [900, 800, 700]] {
         let lengths = [0, 1, 2].map(|i| EXACT[i] + more[i]);
-        asks(tally, "k = 2", &sheet, (2, 2), lengths, (0, [&list, &[0; 144], &counts]));
+        asks(tally, "k = 2", &sheet, ask(2, 2), lengths, (0, [&list, &[0; 144], &counts]));
     }
-    let counts = long_bytes(&[1, 1]);
-    asks(tally, "k = 1", &sheet, (2, 1), EXACT, (0, [&list[..40], &[0; 144], &counts]));
-    asks(tally, "k = 1, 40 bytes", &sheet, (2, 1), [40, 144, 16], (0, [&list[..40], &[0; 144], &counts]));
+    let counts = long_bytes(&[1, for_one]);
+    asks(tally, "k = 1", &sheet, ask(2, 1), EXACT, (0, [&list[..40], &[0; 144], &counts]));
+    asks(tally, "k = 1, 40 bytes", &sheet, ask(2, 1), [40, 144, 16], (0, [&list[..40], &[0; 144], &counts]));
     for length in [39, 36, 32, 31] {
-        asks(tally, "k = 1, too few bytes", &sheet, (2, 1), [length, 144, 16], (9, [&[], &[], &[0; 16]]));
+        asks(tally, "k = 1, too few bytes", &sheet, ask(2, 1), [length, 144, 16], (9, [&[], &[], &[0; 16]]));
     }
 }
 
 fn short_slices(tally: &mut Tally) {
     let sheet = marked::sheet().to_bytes();
     let mut nine = |lengths: [usize; 3], counts: &[u8]| {
-        asks(tally, "9", &sheet, (2, 2), lengths, (9, [&[], &[], counts]));
+        for asked in Asked::outward(2, 2).both_ways() {
+            asks(tally, "9", &sheet, asked, lengths, (9, [&[], &[], counts]));
+        }
     };
     for counts in [16, 17, 1_000] {
         nine([79, 144, counts], &[0; 16]);
@@ -158,20 +169,32 @@ fn short_slices(tally: &mut Tally) {
 
 /// 1 to 8 come before 9, and clear counts that have their 16 bytes.
 fn earlier_numbers(tally: &mut Tally) {
-    let sheet = marked::sheet().to_bytes();
     for slices in [[0, 0], [80, 144], [100, 200]] {
         for counts in [0, 7, 15, 16, 17, 40] {
             let lengths = [slices[0], slices[1], counts];
-            let cleared: &[u8] = if counts < 16 { &[] } else { &[0; 16] };
-            let left = |number| (number, [&[][..], &[], cleared]);
-            asks(tally, "k = 0", &sheet, (2, 0), lengths, left(8));
-            asks(tally, "k = 4", &sheet, (2, 4), lengths, left(8));
-            asks(tally, "k of all bits", &sheet, (2, u32::MAX), lengths, left(8));
-            asks(tally, "q = 4", &sheet, (4, 0), lengths, left(7));
-            asks(tally, "q of all bits", &sheet, (u32::MAX, 2), lengths, left(7));
-            asks(tally, "a sheet cut", &sheet[..315], (4, 0), lengths, left(1));
-            asks(tally, "no sheet", &[], (2, 2), lengths, left(1));
+            DIRECTIONS.into_iter().for_each(|direction| refused_early(tally, direction, lengths, 8));
+            NO_DIRECTIONS.into_iter().for_each(|direction| refused_early(tally, direction, lengths, 7));
         }
+    }
+}
+
+/// Faults of a question and of its sheet in this direction, where a k that is out of range gives this number: 7 where the
+/// direction is at fault too.
+fn refused_early(tally: &mut Tally, direction: u32, lengths: [usize; 3], of_k: Number) {
+    let sheet = marked::sheet().to_bytes();
+    let cleared: &[u8] = if lengths[2] < 16 { &[] } else { &[0; 16] };
+    let mut refuses = |name: &str, sheet: &[u8], (q, k): (u32, u32), number: Number| {
+        asks(tally, name, sheet, Asked { q, k, direction }, lengths, (number, [&[], &[], cleared]));
+    };
+    refuses("k = 0", &sheet, (2, 0), of_k);
+    refuses("k = 4", &sheet, (2, 4), of_k);
+    refuses("k of all bits", &sheet, (2, u32::MAX), of_k);
+    refuses("q = 4", &sheet, (4, 0), 7);
+    refuses("q of all bits", &sheet, (u32::MAX, 2), 7);
+    refuses("a sheet cut", &sheet[..315], (4, 0), 1);
+    refuses("no sheet", &[], (2, 2), 1);
+    if of_k == 7 {
+        refuses("no fault but the direction", &sheet, (2, 2), 7);
     }
 }
 
@@ -185,20 +208,27 @@ fn round_and_round() -> Sheet {
     }
 }
 
+/// From place 0 to the offices; and inward, q and the offices having changed places.
 fn walks_refused(tally: &mut Tally) {
     let round = round_and_round();
     let mut unseen = round_and_round();
     unseen.blocks.remove(1);
     let mut crossed = round_and_round();
     crossed.blocks[1] = block([1, 0, 10, 0, 10_000, 10_000]);
-    for (sheet, due) in [(round, 16), (unseen, 17), (crossed, 18)] {
-        let (sheet, cleared) = (sheet.to_bytes(), (due, [&[0; 40][..], &[0; 96], &[0; 16]]));
-        asks(tally, "a walk", &sheet, (0, 1), [40, 96, 16], cleared);
-        asks(tally, "a walk, bytes beyond", &sheet, (0, 1), [55, 103, 23], cleared);
-        asks(tally, "a walk, no counts", &sheet, (0, 1), [40, 96, 15], (9, [&[], &[], &[]]));
-        asks(tally, "a walk, short working", &sheet, (0, 1), [40, 95, 16], (9, [&[], &[], &[0; 16]]));
-        asks(tally, "a walk, short answer", &sheet, (0, 1), [39, 96, 16], (9, [&[], &[], &[0; 16]]));
+    for (mut sheet, due) in [(round, 16), (unseen, 17), (crossed, 18)] {
+        walk_refused(tally, &sheet, Asked::outward(0, 1), due);
+        sheet.offices = vec![0, 0];
+        walk_refused(tally, &sheet, Asked::inward(2, 1), due);
     }
+}
+
+fn walk_refused(tally: &mut Tally, sheet: &Sheet, asked: Asked, due: Number) {
+    let (sheet, cleared) = (sheet.to_bytes(), (due, [&[0; 40][..], &[0; 96], &[0; 16]]));
+    asks(tally, "a walk", &sheet, asked, [40, 96, 16], cleared);
+    asks(tally, "a walk, bytes beyond", &sheet, asked, [55, 103, 23], cleared);
+    asks(tally, "a walk, no counts", &sheet, asked, [40, 96, 15], (9, [&[], &[], &[]]));
+    asks(tally, "a walk, short working", &sheet, asked, [40, 95, 16], (9, [&[], &[], &[0; 16]]));
+    asks(tally, "a walk, short answer", &sheet, asked, [39, 96, 16], (9, [&[], &[], &[0; 16]]));
 }
 
 /// Two places whose road is 258 furlongs, 2 and 1 × 256; 16,512 × 64 / 4,096 is 258. The listed office's
@@ -217,5 +247,7 @@ fn low_bytes_first(tally: &mut Tally) {
     list[16..18].copy_from_slice(&[2, 1]);
     list[32..36].copy_from_slice(&[0xF1, 0x02, 0x03, 0xF4]);
     let counts = [1, 0, 0, 0, 0, 0, 0, 0, 0, 0, 0, 0, 0, 0, 0, 0];
-    asks(tally, "a list of two bytes", &sheet.to_bytes(), (0, 1), [41, 49, 17], (0, [&list, &[0; 48], &counts]));
+    for asked in Asked::outward(0, 1).both_ways() {
+        asks(tally, "a list of two bytes", &sheet.to_bytes(), asked, [41, 49, 17], (0, [&list, &[0; 48], &counts]));
+    }
 }

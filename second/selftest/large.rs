@@ -5,6 +5,7 @@ use crate::inputs::full;
 use crate::inputs::limit_cases;
 use crate::inputs::marked::{block, place, stage};
 use crate::inputs::rng::Rng;
+use crate::rules::asked::Asked;
 use crate::rules::check::check;
 use crate::rules::layout;
 use crate::rules::limits::*;
@@ -31,16 +32,22 @@ pub fn run(tally: &mut Tally) {
     let number = check(&bytes, &mut vec![0; 1_024 * 1_024]);
     tally.met_check(number);
     tally.same("the grand sheet is true", number, ACCEPTED);
-    let (outcome, list) = question_asked(tally, "the grand sheet", &bytes, 5, 6);
-    let offices: Vec<(u64, u64)> = list.chunks(ANSWER_WORDS).map(|record| (record[0], record[4])).collect();
-    let (at_5, at_6) = (3_999_999_995, 3_999_999_994);
-    let due = vec![(5, at_5), (1_029, at_5), (2_053, at_5), (3_077, at_5), (6, at_6), (1_030, at_6)];
-    tally.same("the grand sheet's question", (outcome.number, offices), (0, due));
-    tally.same("the grand sheet in the program", answer(&input_of(5, 6, &bytes)).as_str(), "refused 20\n");
+    // From place 5 the next is 6; to place 5 the nearest is 4.
+    grand_question(tally, &bytes, Asked::outward(5, 6), [(6, 3_999_999_994), (1_030, 3_999_999_994)]);
+    grand_question(tally, &bytes, Asked::inward(5, 6), [(4, 3_999_999_996), (1_028, 3_999_999_996)]);
     numbers_of_all_places(tally, &sheet);
     one_over(tally, sheet);
     full_sheet(tally);
     full_nets(tally);
+}
+
+/// The four offices at place 5 come first, then these, with their gazetteer numbers.
+fn grand_question(tally: &mut Tally, bytes: &[u8], asked: Asked, then: [(u64, u64); 2]) {
+    let (outcome, list) = question_asked(tally, "the grand sheet", bytes, asked);
+    let offices: Vec<(u64, u64)> = list.chunks(ANSWER_WORDS).map(|record| (record[0], record[4])).collect();
+    let at_5 = [5, 1_029, 2_053, 3_077].map(|office| (office, 3_999_999_995));
+    tally.same("the grand sheet's question", (outcome.number, offices), (0, [&at_5[..], &then].concat()));
+    tally.same("the grand sheet in the program", answer(&input_of(asked, bytes)).as_str(), "refused 20\n");
 }
 
 /// Every count at its largest, and true: stages of length j lead j places on, so that the stage to
@@ -116,8 +123,10 @@ fn full_sheet(tally: &mut Tally) {
     let sheet = limit_cases::filled(&mut Rng::new(1, 1));
     let bytes = sheet.to_bytes();
     tally.same("a full sheet's bytes", bytes.len(), 65_536);
-    let text = answer(&input_of(0, 1, &bytes));
-    tally.claim(text.starts_with("1 "), || format!("a full sheet: {text}"));
+    for asked in Asked::outward(0, 1).both_ways() {
+        let text = answer(&input_of(asked, &bytes));
+        tally.claim(text.starts_with("1 "), || format!("a full sheet, {asked}: {text}"));
+    }
 }
 
 /// What is drawn for full-size comparisons is true, and has its number of blocks: 40 places have 40 × 39 pairs.

@@ -4,6 +4,7 @@ use crate::inputs::longest;
 use crate::inputs::longest::case::{Case, Question};
 use crate::inputs::rng::Rng;
 use crate::rules::check::check;
+use crate::rules::limits::DIRECTIONS;
 use crate::rules::question::Outcome;
 use crate::rules::refusal::ACCEPTED;
 use crate::selftest::largest::Largest;
@@ -12,16 +13,17 @@ use crate::selftest::random::question_due;
 use crate::tally::Tally;
 
 pub fn run(tally: &mut Tally, seed: u64) {
-    let mut largest = Largest::default();
+    let mut largest = [Largest::default(); DIRECTIONS.len()];
     for case in longest::all(&mut Rng::new(seed, 0)) {
         checked(tally, &case);
         for question in &case.questions {
-            largest = largest.or(asked(tally, &case, question));
+            let met = &mut largest[question.asked.way()];
+            *met = met.or(asked(tally, &case, question));
         }
     }
     // 1,023 × 65,535; (2^32-1) × 92,591 / 4,096 rounded up; and rounded down, with the walked length.
     let due = Largest { walked: 67_042_305, end: 97_088_700_394, sum: 97_155_742_698 };
-    tally.same("the largest numbers of all walks", largest, due);
+    tally.same("the largest numbers of all walks", largest, [due; DIRECTIONS.len()]);
 }
 
 fn checked(tally: &mut Tally, case: &Case) {
@@ -31,15 +33,17 @@ fn checked(tally: &mut Tally, case: &Case) {
 }
 
 fn asked(tally: &mut Tally, case: &Case, question: &Question) -> Largest {
-    let name = format!("{}, q = {}, k = {}, {:?}", case.name, question.q, question.k, question.offices);
+    let name = format!("{}, {}, {:?}", case.name, question.asked, question.offices);
     let sheet = case.sheet(question);
-    let (q, k) = (u64::from(question.q), u64::from(question.k));
-    let (outcome, list) = question_asked(tally, &name, &sheet.to_bytes(), q, k);
-    tally.same(&name, (outcome, list.clone()), question_due(&sheet, q, k));
+    let (outcome, list) = question_asked(tally, &name, &sheet.to_bytes(), question.asked);
+    tally.same(&name, (outcome, list.clone()), question_due(&sheet, question.asked));
     let due = match &question.due {
-        Ok((list, total)) => (Outcome { number: ACCEPTED, count: k, refinements: *total }, list.concat()),
+        Ok((list, total)) => {
+            let count = u64::from(question.asked.k);
+            (Outcome { number: ACCEPTED, count, refinements: *total }, list.concat())
+        }
         Err(number) => (Outcome::refused(*number), vec![0; list.len()]),
     };
     tally.same(&name, (outcome, list), due);
-    Largest::of(&sheet, question.q as usize, question.k as usize)
+    Largest::of(&sheet, question.asked)
 }

@@ -1,6 +1,7 @@
 //! The walk told another way: each named road is written out with the interval after every stage,
 //! and the listing only moves along those. Checked sheets or not.
 
+use crate::rules::asked::Asked;
 use crate::rules::limits::ANSWER_WORDS;
 use crate::rules::refusal::*;
 use crate::rules::sheet::Sheet;
@@ -26,9 +27,16 @@ impl Road {
     }
 }
 
-/// The named road from q to a place, as far as it can be followed in N-1 stages.
-pub fn road(sheet: &Sheet, q: usize, sought: usize) -> Road {
-    let (mut via, mut walked) = (q, 0);
+/// From q to an office's place outward (0), from there to q inward (1).
+pub fn from_and_to(asked: Asked, stand: usize) -> (usize, usize) {
+    let ends = [asked.q as usize, stand];
+    let first = asked.direction as usize;
+    (ends[first], ends[1 - first])
+}
+
+/// The named road between two places, as far as it can be followed in N-1 stages.
+pub fn road(sheet: &Sheet, from: usize, sought: usize) -> Road {
+    let (mut via, mut walked) = (from, 0);
     let mut road = Road { ends: Vec::new(), arrives: false };
     let mut kept = (0, i128::MAX);
     while road.ends.len() < sheet.places.len() {
@@ -50,9 +58,13 @@ pub fn road(sheet: &Sheet, q: usize, sought: usize) -> Road {
 }
 
 /// What a valid question lists, with its total, or its refusal; the layout holds.
-pub fn listing(sheet: &Sheet, q: usize, k: usize) -> Result<(Vec<u64>, u64), Number> {
+pub fn listing(sheet: &Sheet, asked: Asked) -> Result<(Vec<u64>, u64), Number> {
     let towns: BTreeSet<u32> = sheet.offices.iter().copied().collect();
-    let roads: BTreeMap<u32, Road> = towns.into_iter().map(|v| (v, road(sheet, q, v as usize))).collect();
+    let road_at = |stand: u32| {
+        let (from, to) = from_and_to(asked, stand as usize);
+        (stand, road(sheet, from, to))
+    };
+    let roads: BTreeMap<u32, Road> = towns.into_iter().map(road_at).collect();
     let road_of = |office: usize| &roads[&sheet.offices[office]];
     let mut waiting = BTreeSet::new();
     let mut stages = vec![0; sheet.offices.len()];
@@ -60,7 +72,7 @@ pub fn listing(sheet: &Sheet, q: usize, k: usize) -> Result<(Vec<u64>, u64), Num
         waiting.insert((road_of(office).after(0)?.0, office));
     }
     let (mut list, mut total) = (Vec::new(), 0);
-    while list.len() < k * ANSWER_WORDS {
+    while list.len() < asked.k as usize * ANSWER_WORDS {
         let (_, leader) = waiting.pop_first().expect("k offices");
         let (low, high) = road_of(leader).after(stages[leader])?;
         if waiting.first().is_none_or(|&next| (high, leader) < next) {

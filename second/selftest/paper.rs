@@ -1,11 +1,13 @@
 //! Self test, part 1: what the paper prints, P1 to P10 (P2 to P4 at the scale of item 11 of
-//! document 02, P9 and P10 with the gazetteer numbers of item 2) and its list "Run, not proved".
+//! document 02, P9 and P10 with the gazetteer numbers of item 2), its list "Run, not proved", and the marked question
+//! inward (item 4).
 
 use crate::inputs::marked;
+use crate::rules::asked::Asked;
 use crate::rules::map::Map;
 use crate::rules::measure::{code_of, crow, Interval};
 use crate::rules::program::{answer, input_of};
-use crate::rules::question::{refine, start};
+use crate::rules::question::{refine, start, Waiting};
 use crate::rules::roads::Roads;
 use crate::rules::sheet::Sheet;
 use crate::selftest::probe::{check_gives, question_asked};
@@ -14,30 +16,63 @@ use crate::tally::Tally;
 pub fn run(tally: &mut Tally) {
     tally.same("the marked sheet's bytes", marked::sheet().to_bytes().len(), 316);
     printed(tally);
+    printed_inward(tally);
+    words_in_order(tally);
     marked_measures(tally);
     marked_intervals(tally);
+    marked_intervals_inward(tally);
     marked_questions(tally);
     layout_passes(tally);
     untrue_sheets(tally);
     one_office(tally);
 }
 
-fn program_prints(tally: &mut Tally, name: &str, sheet: &Sheet, (q, k): (u32, u32), due: &str) {
-    let text = answer(&input_of(q, k, &sheet.to_bytes()));
-    tally.met_text(&text);
+fn program_prints(tally: &mut Tally, name: &str, sheet: &Sheet, asked: Asked, due: &str) {
+    let input = input_of(asked, &sheet.to_bytes());
+    let text = answer(&input);
+    tally.met_text(&input, &text);
     tally.same(name, text.as_str(), due);
 }
 
 fn printed(tally: &mut Tally) {
     let sheet = marked::sheet();
-    program_prints(tally, "k = 1", &sheet, (2, 1), "1 1\n2 5 5 1 102\n");
-    program_prints(tally, "the printed case", &sheet, (2, 2), "2 5\n2 5 5 1 102\n0 11 11 2 101\n");
+    program_prints(tally, "k = 1", &sheet, Asked::outward(2, 1), "1 1\n2 5 5 1 102\n");
+    program_prints(tally, "the printed case", &sheet, Asked::outward(2, 2), "2 5\n2 5 5 1 102\n0 11 11 2 101\n");
     let all = "3 5\n2 5 5 1 102\n0 11 11 2 101\n1 20 20 2 104\n";
-    program_prints(tally, "k = 3", &sheet, (2, 3), all);
-    program_prints(tally, "k = 0", &sheet, (2, 0), "refused 8\n");
-    program_prints(tally, "k = 4", &sheet, (2, 4), "refused 8\n");
-    program_prints(tally, "q = 4", &sheet, (4, 2), "refused 7\n");
-    program_prints(tally, "q = 4, k = 4", &sheet, (4, 4), "refused 7\n");
+    program_prints(tally, "k = 3", &sheet, Asked::outward(2, 3), all);
+    program_prints(tally, "k = 0", &sheet, Asked::outward(2, 0), "refused 8\n");
+    program_prints(tally, "k = 4", &sheet, Asked::outward(2, 4), "refused 8\n");
+    program_prints(tally, "q = 4", &sheet, Asked::outward(4, 2), "refused 7\n");
+    program_prints(tally, "q = 4, k = 4", &sheet, Asked::outward(4, 4), "refused 7\n");
+}
+
+/// From the offices to place 2: from place 1 exactly 5, from place 0 exactly 11, from place 3 by way of place 0, from where
+/// the length is exact, 9 + 11.
+fn printed_inward(tally: &mut Tally) {
+    let mut sheet = marked::sheet();
+    program_prints(tally, "inward, k = 1", &sheet, Asked::inward(2, 1), "1 0\n2 5 5 0 102\n");
+    program_prints(tally, "inward, as item 4 has it", &sheet, Asked::inward(2, 2), "2 0\n2 5 5 0 102\n0 11 11 0 101\n");
+    let all = "3 0\n2 5 5 0 102\n0 11 11 0 101\n1 13 32 0 104\n";
+    program_prints(tally, "inward, k = 3", &sheet, Asked::inward(2, 3), all);
+    program_prints(tally, "inward, k = 0", &sheet, Asked::inward(2, 0), "refused 8\n");
+    program_prints(tally, "inward, k = 4", &sheet, Asked::inward(2, 4), "refused 8\n");
+    program_prints(tally, "inward, q = 4", &sheet, Asked::inward(4, 4), "refused 7\n");
+    sheet.offices = vec![3, 3];
+    let two = "2 2\n0 20 20 1 104\n1 20 20 1 104\n";
+    program_prints(tally, "inward, two offices at place 3", &sheet, Asked::inward(2, 2), two);
+}
+
+/// q, k, direction, low byte first.
+fn words_in_order(tally: &mut Tally) {
+    let mut input = vec![2, 0, 0, 0, 3, 0, 0, 0, 1, 0, 0, 0];
+    input.extend(marked::sheet().to_bytes());
+    let inward = "3 0\n2 5 5 0 102\n0 11 11 0 101\n1 13 32 0 104\n";
+    tally.same("q = 2, k = 3, inward", answer(&input).as_str(), inward);
+    for byte in 9..12 {
+        let mut input = input.clone();
+        input.swap(8, byte);
+        tally.same("a direction of higher bytes", answer(&input).as_str(), "refused 7\n");
+    }
 }
 
 fn marked_measures(tally: &mut Tally) {
@@ -55,20 +90,36 @@ fn marked_measures(tally: &mut Tally) {
 fn marked_intervals(tally: &mut Tally) {
     let sheet = marked::sheet();
     let map = Map::of(&sheet);
-    let first = start(&map, 2).expect("the marked sheet is true");
-    let ends = |i: Interval| (i.low, i.high);
-    let found: Vec<(u64, u64)> = first.iter().map(|office| ends(office.interval)).collect();
-    tally.same("P7", found, vec![(10, 30), (7, 20), (5, 15)]);
+    let first = start(&map, Asked::outward(2, 1)).expect("the marked sheet is true");
+    tally.same("P7", first_ends(&first), vec![(10, 30), (7, 20), (5, 15)]);
     let refined = refine(&map, &first[1]).expect("the marked sheet is true");
     tally.same("P8", (ends(refined.interval), refined.via), ((9, 20), 1));
+}
+
+/// P7 and P8 the other way: by the ratios 70 to 71 over 640, 115 to 308 over 429, 64 over 320.
+fn marked_intervals_inward(tally: &mut Tally) {
+    let sheet = marked::sheet();
+    let map = Map::of(&sheet);
+    let first = start(&map, Asked::inward(2, 1)).expect("the marked sheet is true");
+    tally.same("P7 inward", first_ends(&first), vec![(11, 11), (13, 32), (5, 5)]);
+    let refined = refine(&map, &first[1]).expect("the marked sheet is true");
+    tally.same("P8 inward", (ends(refined.interval), refined.via), ((20, 20), 0));
+}
+
+fn ends(interval: Interval) -> (u64, u64) {
+    (interval.low, interval.high)
+}
+
+fn first_ends(offices: &[Waiting]) -> Vec<(u64, u64)> {
+    offices.iter().map(|office| ends(office.interval)).collect()
 }
 
 fn marked_questions(tally: &mut Tally) {
     let bytes = marked::sheet().to_bytes();
     check_gives(tally, "the check", &marked::sheet(), 0);
-    let (one, list) = question_asked(tally, "P9", &bytes, 2, 1);
+    let (one, list) = question_asked(tally, "P9", &bytes, Asked::outward(2, 1));
     tally.same("P9", (list, one.refinements), (vec![2, 5, 5, 1, 102], 1));
-    let (two, list) = question_asked(tally, "P10", &bytes, 2, 2);
+    let (two, list) = question_asked(tally, "P10", &bytes, Asked::outward(2, 2));
     tally.same("P10", (list, two.refinements), (vec![2, 5, 5, 1, 102, 0, 11, 11, 2, 101], 5));
 }
 
@@ -77,7 +128,7 @@ fn layout_passes(tally: &mut Tally) {
     let mut passes = |name: &str, due: u32, change: &dyn Fn(&mut Sheet)| {
         let mut sheet = marked::sheet();
         change(&mut sheet);
-        let (outcome, _) = question_asked(tally, name, &sheet.to_bytes(), 2, 0);
+        let (outcome, _) = question_asked(tally, name, &sheet.to_bytes(), Asked::outward(2, 0));
         tally.same(name, outcome.number, due);
     };
     passes("x 1,023", 8, &|s| s.places[2].cell.x = 1_023);
@@ -92,17 +143,19 @@ fn untrue_sheets(tally: &mut Tally) {
     let mut raised = marked::sheet();
     raised.blocks[5].low = 65;
     check_gives(tally, "low 65", &raised, 14);
-    program_prints(tally, "low 65", &raised, (2, 2), "refused 14\n");
+    program_prints(tally, "low 65", &raised, Asked::outward(2, 2), "refused 14\n");
     let mut removed = marked::sheet();
     removed.blocks.retain(|b| b.place != 3);
     check_gives(tally, "no block of 3", &removed, 12);
-    program_prints(tally, "no block of 3", &removed, (2, 2), "refused 12\n");
+    program_prints(tally, "no block of 3", &removed, Asked::outward(2, 2), "refused 12\n");
 }
 
 fn one_office(tally: &mut Tally) {
     let mut sheet = marked::sheet();
     sheet.offices = vec![3];
-    program_prints(tally, "one office", &sheet, (2, 1), "1 0\n0 7 20 0 104\n");
+    program_prints(tally, "one office", &sheet, Asked::outward(2, 1), "1 0\n0 7 20 0 104\n");
+    program_prints(tally, "one office inward", &sheet, Asked::inward(2, 1), "1 0\n0 13 32 0 104\n");
     sheet.offices = vec![2];
-    program_prints(tally, "one office, at q", &sheet, (2, 1), "1 0\n0 0 0 0 103\n");
+    program_prints(tally, "one office inward, at q", &sheet, Asked::inward(2, 1), "1 0\n0 0 0 0 103\n");
+    program_prints(tally, "one office, at q", &sheet, Asked::outward(2, 1), "1 0\n0 0 0 0 103\n");
 }

@@ -1,5 +1,6 @@
 //! Runs a check or a question in the self test and looks at every word of the slices it was lent.
 
+use crate::rules::asked::Asked;
 use crate::rules::check::check;
 use crate::rules::layout;
 use crate::rules::limits::*;
@@ -39,8 +40,8 @@ pub fn check_gives(tally: &mut Tally, name: &str, sheet: &Sheet, due: Number) {
     tally.same(name, number, due);
 }
 
-pub fn question_gives(tally: &mut Tally, name: &str, sheet: &Sheet, (q, k): (u64, u64), due: Number) {
-    let (outcome, _) = question_asked(tally, name, &sheet.to_bytes(), q, k);
+pub fn question_gives(tally: &mut Tally, name: &str, sheet: &Sheet, asked: Asked, due: Number) {
+    let (outcome, _) = question_asked(tally, name, &sheet.to_bytes(), asked);
     tally.same(name, outcome.number, due);
 }
 
@@ -56,14 +57,14 @@ fn distances_due(sheet: Option<&Sheet>, number: Number, pairs: usize) -> Vec<u32
 }
 
 /// The question's result and its list, its slices being long enough; then with slices too short.
-pub fn question_asked(tally: &mut Tally, name: &str, bytes: &[u8], q: u64, k: u64) -> (Outcome, Vec<u64>) {
+pub fn question_asked(tally: &mut Tally, name: &str, bytes: &[u8], asked: Asked) -> (Outcome, Vec<u64>) {
     let offices = Sheet::from_bytes(bytes).map_or(0, |s| s.offices.len());
-    let answer_words = ANSWER_WORDS * (k as usize).min(offices);
+    let answer_words = ANSWER_WORDS * (asked.k as usize).min(offices);
     let working_words = WORKING_WORDS * offices;
     let mut answer = vec![UNTOUCHED_LONG; answer_words + BEYOND];
     let mut working = vec![UNTOUCHED_LONG; working_words + BEYOND];
-    let outcome = question(bytes, q, k, &mut answer, &mut working);
-    tally.met_question(outcome.number);
+    let outcome = question(bytes, asked, &mut answer, &mut working);
+    tally.met_question(asked, outcome.number);
     let walked = !(CUT_SHORT..=SHORT_SLICES).contains(&outcome.number);
     let (answer_used, working_used) = if walked { (answer_words, working_words) } else { (0, 0) };
     let untouched = |words: &[u64]| words.iter().all(|&w| w == UNTOUCHED_LONG);
@@ -74,27 +75,27 @@ pub fn question_asked(tally: &mut Tally, name: &str, bytes: &[u8], q: u64, k: u6
         tally.claim(answer[..answer_used].iter().all(|&w| w == 0), || format!("{name}: answer words"));
         tally.same(name, (outcome.count, outcome.refinements), (0, 0));
     } else {
-        tally.same(name, outcome.count, k);
+        tally.same(name, outcome.count, u64::from(asked.k));
     }
     if walked {
-        short_slices(tally, name, bytes, (q, k), [answer_words, working_words], outcome);
+        short_slices(tally, name, bytes, asked, [answer_words, working_words], outcome);
     }
     answer.truncate(answer_words);
     (outcome, answer)
 }
 
-fn short_slices(tally: &mut Tally, name: &str, bytes: &[u8], (q, k): (u64, u64), [a, w]: [usize; 2], whole: Outcome) {
+fn short_slices(tally: &mut Tally, name: &str, bytes: &[u8], asked: Asked, [a, w]: [usize; 2], whole: Outcome) {
     for (answer_words, working_words, due) in [
         (a, w, whole),
         (a - 1, w, Outcome::refused(SHORT_SLICES)),
-        (4 * k as usize, w, Outcome::refused(SHORT_SLICES)),
+        (4 * asked.k as usize, w, Outcome::refused(SHORT_SLICES)),
         (a, w - 1, Outcome::refused(SHORT_SLICES)),
         (0, 0, Outcome::refused(SHORT_SLICES)),
     ] {
         let mut answer = vec![UNTOUCHED_LONG; answer_words];
         let mut working = vec![UNTOUCHED_LONG; working_words];
-        let outcome = question(bytes, q, k, &mut answer, &mut working);
-        tally.met_question(outcome.number);
+        let outcome = question(bytes, asked, &mut answer, &mut working);
+        tally.met_question(asked, outcome.number);
         tally.same(name, outcome, due);
         if outcome.number == SHORT_SLICES {
             let words = answer.iter().chain(&working);

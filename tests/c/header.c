@@ -28,6 +28,7 @@ static void numbers(void)
         expect(named[number] == number, "each number stands under its name");
     expect(number == ATLAS_WALK_EMPTY + 1, "no number is left out");
     expect(ATLAS_LISTED == 0, "0 is also a list");
+    expect(ATLAS_OUTWARD == 0 && ATLAS_INWARD == 1, "0 is outward, 1 inward");
 }
 
 static void sizes(void)
@@ -83,15 +84,15 @@ static void check(const unsigned char *sheet, size_t bytes)
     expect(is_filled(distances, ATLAS_DISTANCES_BYTES(4), sizeof distances, 170), "later bytes are untouched");
 }
 
-/* Asks from place 2, in slices that are longer than the marked sheet needs. */
+/* Asks in slices that are longer than the marked sheet needs. */
 static unsigned char answer[200], working[200], counts[ATLAS_COUNTS_BYTES + 1];
 
-static unsigned int ask(const unsigned char *sheet, size_t bytes, unsigned int k)
+static unsigned int ask(const unsigned char *sheet, size_t bytes, unsigned int q, unsigned int k, unsigned int direction)
 {
     fill(answer, sizeof answer);
     fill(working, sizeof working);
     fill(counts, sizeof counts);
-    return atlas_question(sheet, bytes, 2, k, answer, sizeof answer, working, sizeof working, counts, sizeof counts);
+    return atlas_question(sheet, bytes, q, k, direction, answer, sizeof answer, working, sizeof working, counts, sizeof counts);
 }
 
 static double in_line(size_t rank, size_t which)
@@ -110,7 +111,7 @@ static void places(const unsigned char *sheet)
 static unsigned int ask_in(const unsigned char *sheet, size_t bytes, size_t answer_bytes)
 {
     fill(answer, sizeof answer);
-    return atlas_question(sheet, bytes, 2, 2, answer, answer_bytes, working, sizeof working, counts, sizeof counts);
+    return atlas_question(sheet, bytes, 2, 2, ATLAS_OUTWARD, answer, answer_bytes, working, sizeof working, counts, sizeof counts);
 }
 
 static void short_answer(const unsigned char *sheet, size_t bytes)
@@ -122,16 +123,22 @@ static void short_answer(const unsigned char *sheet, size_t bytes)
     expect(ask_in(sheet, bytes, 2 * 40) == ATLAS_LISTED, "2 offices with 40 bytes each");
 }
 
-/* The sheet with a gazetteer number changed. */
-static unsigned int check_with(const unsigned char *sheet, size_t bytes, size_t place, unsigned int gazetteer)
+/* The marked sheet with a word changed. */
+static unsigned char changed[316];
+
+static void change(const unsigned char *sheet, size_t bytes, size_t word, unsigned int number)
 {
-    static unsigned char changed[316], distances[64];
-    unsigned char *word = changed + 4 * (1 + ATLAS_PLACE_WORDS * place + ATLAS_PLACE_GAZETTEER);
     size_t i;
     for (i = 0; i < sizeof changed && i < bytes; i++)
         changed[i] = sheet[i];
     for (i = 0; i < 4; i++)
-        word[i] = (unsigned char)(gazetteer >> 8 * i & 255);
+        changed[4 * word + i] = (unsigned char)(number >> 8 * i & 255);
+}
+
+static unsigned int check_with(const unsigned char *sheet, size_t bytes, size_t place, unsigned int gazetteer_number)
+{
+    static unsigned char distances[64];
+    change(sheet, bytes, 1 + ATLAS_PLACE_WORDS * place + ATLAS_PLACE_GAZETTEER, gazetteer_number);
     return atlas_check(changed, sizeof changed, distances, sizeof distances);
 }
 
@@ -144,24 +151,104 @@ static void gazetteer(const unsigned char *sheet, size_t bytes)
     expect(check_with(sheet, bytes, 0, 4294967295U) == ATLAS_ACCEPTED, "the largest number");
 }
 
-static void question(const unsigned char *sheet, size_t bytes)
+/* Whether a listed office has these words, each as the paper has it. */
+static int has_line(size_t rank, double office, double length, double stages_walked, double gazetteer_number)
 {
-    expect(atlas_question(sheet, bytes, 2, 2, NULL, 0, NULL, 0, NULL, 0) == ATLAS_SHORT_SLICES, "nothing lent");
-    expect(ask(sheet, bytes, 4) == ATLAS_BAD_K, "4 of 3 offices");
-    expect(is_filled(answer, 0, sizeof answer, 170) && is_filled(working, 0, sizeof working, 170), "8: both are untouched");
-    expect(is_filled(counts, 0, ATLAS_COUNTS_BYTES, 0), "8: the counts are 0");
-    expect(ask(sheet, bytes, 2) == ATLAS_LISTED, "P10 is listed");
-    expect(atlas_word64(counts, ATLAS_COUNT_LISTED) == 2 && atlas_word64(counts, ATLAS_COUNT_REFINEMENTS) == 5, "P10: the counts");
-    expect(in_line(0, ATLAS_LINE_OFFICE) == 2 && in_line(0, ATLAS_LINE_LOW_END) == 5 && in_line(0, ATLAS_LINE_HIGH_END) == 5 &&
-               in_line(0, ATLAS_LINE_STAGES_WALKED) == 1 && in_line(0, ATLAS_LINE_GAZETTEER) == 102,
-           "P10: office 2");
-    expect(in_line(1, ATLAS_LINE_OFFICE) == 0 && in_line(1, ATLAS_LINE_LOW_END) == 11 && in_line(1, ATLAS_LINE_HIGH_END) == 11 &&
-               in_line(1, ATLAS_LINE_STAGES_WALKED) == 2 && in_line(1, ATLAS_LINE_GAZETTEER) == 101,
-           "P10: office 0");
-    expect(is_filled(working, 0, ATLAS_WORKING_BYTES(3), 0), "P10: the working bytes are 0");
+    return in_line(rank, ATLAS_LINE_OFFICE) == office && in_line(rank, ATLAS_LINE_LOW_END) == length &&
+           in_line(rank, ATLAS_LINE_HIGH_END) == length && in_line(rank, ATLAS_LINE_STAGES_WALKED) == stages_walked &&
+           in_line(rank, ATLAS_LINE_GAZETTEER) == gazetteer_number;
+}
+
+static int has_counts(double listed, double refinements)
+{
+    return atlas_word64(counts, ATLAS_COUNT_LISTED) == listed && atlas_word64(counts, ATLAS_COUNT_REFINEMENTS) == refinements;
+}
+
+/* What a question of two offices leaves beside its answer, once it came to the walk. */
+static void expect_left(void)
+{
+    expect(is_filled(working, 0, ATLAS_WORKING_BYTES(3), 0), "a walk: the working bytes are 0");
     expect(is_filled(answer, ATLAS_ANSWER_BYTES(2), sizeof answer, 170) && is_filled(counts, ATLAS_COUNTS_BYTES, sizeof counts, 170) &&
                is_filled(working, ATLAS_WORKING_BYTES(3), sizeof working, 170),
-           "P10: later bytes are untouched");
+           "a walk: later bytes are untouched");
+}
+
+static void question(const unsigned char *sheet, size_t bytes)
+{
+    expect(ask(sheet, bytes, 2, 2, ATLAS_OUTWARD) == ATLAS_LISTED, "P10 is listed");
+    expect(has_counts(2, 5), "P10: the counts");
+    expect(has_line(0, 2, 5, 1, 102), "P10: office 2");
+    expect(has_line(1, 0, 11, 2, 101), "P10: office 0");
+    expect_left();
+    expect(ask(sheet, bytes, 2, 2, ATLAS_INWARD) == ATLAS_LISTED, "P10 inward is listed");
+    expect(has_counts(2, 0), "P10 inward: the counts");
+    expect(has_line(0, 2, 5, 0, 102), "P10 inward: office 2");
+    expect(has_line(1, 0, 11, 0, 101), "P10 inward: office 0");
+    expect_left();
+}
+
+/* A question is refused by the number, and leaves what 7 and 8 leave. */
+static void expect_refused(unsigned int given, unsigned int number, const char *what)
+{
+    expect(given == number, what);
+    expect(is_filled(answer, 0, sizeof answer, 170) && is_filled(working, 0, sizeof working, 170), "7 and 8: both are untouched");
+    expect(is_filled(counts, 0, ATLAS_COUNTS_BYTES, 0), "7 and 8: the counts are 0");
+}
+
+static void refused(const unsigned char *sheet, size_t bytes)
+{
+    static const unsigned int neither[] = {2, 256, 2147483648U, 4294967295U};
+    size_t i;
+    for (i = 0; i < sizeof neither / sizeof *neither; i++) {
+        expect_refused(ask(sheet, bytes, 2, 2, neither[i]), ATLAS_BAD_Q, "a direction that is neither");
+        expect_refused(ask(sheet, bytes, 4, 2, neither[i]), ATLAS_BAD_Q, "neither, and q = 4");
+        expect_refused(ask(sheet, bytes, 2, 0, neither[i]), ATLAS_BAD_Q, "neither, and k = 0");
+    }
+    expect_refused(ask(sheet, bytes, 4, 2, ATLAS_OUTWARD), ATLAS_BAD_Q, "q = 4 of 4 places, outward");
+    expect_refused(ask(sheet, bytes, 4, 0, ATLAS_INWARD), ATLAS_BAD_Q, "q = 4 of 4 places, inward, and k = 0");
+    expect_refused(ask(sheet, bytes, 2, 4, ATLAS_OUTWARD), ATLAS_BAD_K, "4 of 3 offices, outward");
+    expect_refused(ask(sheet, bytes, 2, 4, ATLAS_INWARD), ATLAS_BAD_K, "4 of 3 offices, inward");
+    expect_refused(ask(sheet, bytes, 2, 0, ATLAS_INWARD), ATLAS_BAD_K, "no office, inward");
+}
+
+/* A word of a block: before the blocks stand 4 places, 6 stages and three counts. The blocks of places 2 and 3 are numbers 5 and 6. */
+#define BLOCK_WORD(block, word) (3 + ATLAS_PLACE_WORDS * 4 + ATLAS_STAGE_WORDS * 6 + ATLAS_BLOCK_WORDS * (block) + (word))
+#define LEVEL 2
+#define HIGH_RATIO 5
+
+/* Asks of the changed sheet, which was not checked; a refused walk leaves 0 in what two offices of three need. */
+static void expect_walk(unsigned int direction, unsigned int number, const char *what)
+{
+    unsigned int expected = number == ATLAS_LISTED ? 2 : 0;
+    expect(ask(changed, sizeof changed, 2, 2, direction) == number, what);
+    expect(atlas_word64(counts, ATLAS_COUNT_LISTED) == expected, "a walk: the count listed");
+    expect(is_filled(answer, 0, ATLAS_ANSWER_BYTES(2), 0) == (number != ATLAS_LISTED), "a walk: the answer");
+    expect_left();
+}
+
+/* The direction decides whose block is asked first, and for which place. */
+static void walks(const unsigned char *sheet, size_t bytes)
+{
+    change(sheet, bytes, BLOCK_WORD(5, LEVEL), 0);
+    expect_walk(ATLAS_OUTWARD, ATLAS_WALK_NO_BLOCK, "place 2's block covers place 0 alone: office 1, at place 3, is sought in it outward");
+    expect_walk(ATLAS_INWARD, ATLAS_LISTED, "place 2's block covers place 0 alone: it is not asked inward");
+    change(sheet, bytes, BLOCK_WORD(6, LEVEL), 0);
+    expect_walk(ATLAS_OUTWARD, ATLAS_LISTED, "place 3's block covers place 0 alone: it is not asked outward");
+    expect_walk(ATLAS_INWARD, ATLAS_WALK_NO_BLOCK, "place 3's block covers place 0 alone: place 2 is sought in it inward, for office 1");
+    /* 115 * 429 / 4,096 is between 12 and 13 */
+    change(sheet, bytes, BLOCK_WORD(6, HIGH_RATIO), 115);
+    expect_walk(ATLAS_OUTWARD, ATLAS_LISTED, "both ratios of place 3 are 115, which is not asked outward");
+    expect_walk(ATLAS_INWARD, ATLAS_WALK_EMPTY, "both ratios of place 3 are 115: no length fits from there to place 2");
+}
+
+/* Several faults at once: which number comes first. */
+static void nothing_lent(const unsigned char *sheet, size_t bytes)
+{
+    expect(atlas_question(NULL, 0, 4, 0, 2, NULL, 0, NULL, 0, NULL, 0) == ATLAS_CUT_SHORT, "no sheet, and all else bad");
+    expect(atlas_question(sheet, bytes, 2, 2, 2, NULL, 0, NULL, 0, NULL, 0) == ATLAS_BAD_Q, "neither, and nothing lent");
+    expect(atlas_question(sheet, bytes, 2, 0, ATLAS_INWARD, NULL, 0, NULL, 0, NULL, 0) == ATLAS_BAD_K, "inward, k = 0, and nothing lent");
+    expect(atlas_question(sheet, bytes, 2, 2, ATLAS_OUTWARD, NULL, 0, NULL, 0, NULL, 0) == ATLAS_SHORT_SLICES, "outward, nothing lent");
+    expect(atlas_question(sheet, bytes, 2, 2, ATLAS_INWARD, NULL, 0, NULL, 0, NULL, 0) == ATLAS_SHORT_SLICES, "inward, nothing lent");
 }
 
 int main(void)
@@ -176,6 +263,9 @@ int main(void)
     places(sheet);
     gazetteer(sheet, bytes);
     question(sheet, bytes);
+    refused(sheet, bytes);
+    walks(sheet, bytes);
+    nothing_lent(sheet, bytes);
     short_answer(sheet, bytes);
     return failed;
 }

@@ -1,6 +1,6 @@
-/* stack SHEET Q K: how many bytes of stack the check and the question need on a sheet. Each is called on a thread whose stack was painted
-   before; what is no longer paint was used. Exit status 1 where it is more than the header says, or the call was refused;
-   2 where nothing could be measured. POSIX threads. */
+/* stack SHEET Q K: how many bytes of stack the check and the question, in both directions, need on a sheet. Each is called on a thread
+   whose stack was painted before; what is no longer paint was used. Exit status 1 where it is more than the header says, or the call was
+   refused; 2 where nothing could be measured. POSIX threads. */
 
 #define _POSIX_C_SOURCE 200809L
 
@@ -27,9 +27,19 @@ static unsigned int check(void)
     return atlas_check(sheet, sheet_bytes, distances, sizeof distances);
 }
 
-static unsigned int question(void)
+static unsigned int question(unsigned int direction)
 {
-    return atlas_question(sheet, sheet_bytes, q, k, answer, sizeof answer, working, sizeof working, counts, sizeof counts);
+    return atlas_question(sheet, sheet_bytes, q, k, direction, answer, sizeof answer, working, sizeof working, counts, sizeof counts);
+}
+
+static unsigned int outward(void)
+{
+    return question(ATLAS_OUTWARD);
+}
+
+static unsigned int inward(void)
+{
+    return question(ATLAS_INWARD);
 }
 
 static unsigned int known(void)
@@ -107,6 +117,6 @@ int main(int argc, char **argv)
     call = measure(known);
     if (call.used < KNOWN_BYTES || call.used > KNOWN_BYTES + NEAR_BYTES)
         stop("a known need is not measured as it is");
-    all_hold = holds("the check", check) & holds("the question", question);
+    all_hold = holds("the check", check) & holds("the question outward", outward) & holds("the question inward", inward);
     return fflush(stdout) == 0 && all_hold ? 0 : 1;
 }

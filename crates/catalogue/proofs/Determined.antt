@@ -14,6 +14,6 @@ pub atlas-check-one : (s : List ℕ) → Bytes s → (before : List ℕ) (r r′
 atlas-check-one s bytes before r r′ after after′ = host-checked-one (laid-out s bytes)
 
 -- the number, and every byte of the three slices, as one record
-pub atlas-question-one : (s : List ℕ) (q k : ℕ) (a w c : List ℕ) (r r′ : ℕ) (a′ w′ c′ a″ w″ c″ : List ℕ) → handed r a′ w′ c′ ≡ hostReply s q k a w c
-    → handed r′ a″ w″ c″ ≡ hostReply s q k a w c → handed r a′ w′ c′ ≡ handed r′ a″ w″ c″
-atlas-question-one s q k a w c r r′ a′ w′ c′ a″ w″ c″ e e′ = e ∙ sym e′
+pub atlas-question-one : (s : List ℕ) (q k d : ℕ) (a w c : List ℕ) (r r′ : ℕ) (a′ w′ c′ a″ w″ c″ : List ℕ) → handed r a′ w′ c′ ≡ hostReply s q k d a w c
+    → handed r′ a″ w″ c″ ≡ hostReply s q k d a w c → handed r a′ w′ c′ ≡ handed r′ a″ w″ c″
+atlas-question-one s q k d a w c r r′ a′ w′ c′ a″ w″ c″ e e′ = e ∙ sym e′

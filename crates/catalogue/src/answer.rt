@@ -6,6 +6,7 @@ use nearest::invalid as invalid_in_words;
 use nearest::walk::Walked;
 use nearest::walk_mapped;
 use paper::Counts;
+use paper::Quest;
 use paper::sizes::COUNTS_BYTES;
 use paper::sizes::LINE_WORDS;
 use paper::sizes::LONG_BYTES;
@@ -17,10 +18,10 @@ ghost use lib.ListN.{length};
 ghost use Rattle.paper.specs.Sizes.{lineWords, longBytes, mostOffices};
 ghost use Rattle.paper.specs.Map.{Map, Offices};
 ghost use Rattle.paper.specs.Sheet.{mapOf, officesIn};
-ghost use Rattle.paper.specs.Quest.{outward};
 ghost use Rattle.paper.specs.Listing.{listing};
 ghost use Rattle.paper.specs.Host.{counted, hostInvalid, hostReplyOn};
 ghost use Rattle.sheet.specs.Ground.{Mapped, Roll};
+ghost use Rattle.nearest.specs.Question.{questOn};
 ghost use Rattle.catalogue.specs.Handed.{handed, CameOut};
 
 // Words of the walk's own slices.
@@ -40,14 +41,23 @@ pub fn put_counts(bytes: &mut [u8], listed: u64, refinements: u64)
 }
 
 // 0, or the first of 7, 8 and 9 that is due, for slices of so many bytes.
-fn invalid(found: Counts, q: u32, k: u32, answer: &[u8], working: &[u8], counts: &[u8]) -> u32
+fn invalid(
+    found: Counts,
+    q: u32,
+    k: u32,
+    direction: u32,
+    answer: &[u8],
+    working: &[u8],
+    counts: &[u8],
+) -> u32
     requires { ⌜ found .offices ≤ mostOffices ⌝ }
-    ensures { λ r. ⌜ ((m : Map) (o : Offices) → m .places ≡ found .places → o .count ≡ found .offices → r ≡ hostInvalid m o q k (now (answer .entry)) (now (working .entry)) (now (counts .entry))) ⌝ }
+    ensures { λ r. ⌜ ((m : Map) (o : Offices) → m .places ≡ found .places → o .count ≡ found .offices → r ≡ hostInvalid m o q k direction (now (answer .entry)) (now (working .entry)) (now (counts .entry))) ⌝ }
 {
     let due = invalid_in_words(
         found,
         q,
         k,
+        direction,
         answer.len() / LONG_BYTES,
         working.len() / LONG_BYTES,
     );
@@ -60,22 +70,22 @@ fn invalid(found: Counts, q: u32, k: u32, answer: &[u8], working: &[u8], counts:
     0
 }
 
-// The listing of k offices from q, over a map that is read off the bytes. After a refusal the answer's first 40k bytes may be anything.
+// The listing of k offices, over a map that is read off the bytes. After a refusal the answer's first 40k bytes may be anything.
 fn list_lines(
     ground: &[u8],
     found: Counts,
     list: &[u8],
-    q: usize,
+    quest: Quest,
     k: usize,
     answer: &mut [u8],
 ) -> Walked
     requires { ⌜ Mapped (now ground) found ⌝ }
-    requires { ⌜ (Roll (now list) (found .offices) (found .places)) × (q < found .places) × (1 ≤ k) × (k ≤ found .offices) × (longBytes * (lineWords * k) ≤ length (now answer)) ⌝ }
-    ensures { λ r. ⌜ CameOut k (listing (mapOf (now (ground .entry))) (outward (officesIn (now (list .entry))) q) k) (now (answer .entry)) (now (answer .exit)) r ⌝ }
+    requires { ⌜ (Roll (now list) (found .offices) (found .places)) × (quest .place < found .places) × (1 ≤ k) × (k ≤ found .offices) × (longBytes * (lineWords * k) ≤ length (now answer)) ⌝ }
+    ensures { λ r. ⌜ CameOut k (listing (mapOf (now (ground .entry))) (questOn (now (list .entry)) quest) k) (now (answer .entry)) (now (answer .exit)) r ⌝ }
 {
     let mut lines = [0u64; LINES];
     let mut slots = [0u64; SLOTS];
-    let ended = walk_mapped(ground, found, list, q, k, &mut lines, &mut slots);
+    let ended = walk_mapped(ground, found, list, quest, k, &mut lines, &mut slots);
     put_longs(answer, &lines, LINE_WORDS * k);
     ended
 }
@@ -87,20 +97,25 @@ pub fn ask(
     list: &[u8],
     q: u32,
     k: u32,
+    direction: u32,
     answer: &mut [u8],
     working: &mut [u8],
     counts: &mut [u8],
 ) -> u32
     requires { ⌜ Mapped (now ground) found ⌝ }
     requires { ⌜ Roll (now list) (found .offices) (found .places) ⌝ }
-    ensures { λ r. ⌜ handed r (now (answer .exit)) (now (working .exit)) (now (counts .exit)) ≡ hostReplyOn 0 (mapOf (now (ground .entry))) (officesIn (now (list .entry))) q k (now (answer .entry)) (now (working .entry)) (now (counts .entry)) ⌝ }
+    ensures { λ r. ⌜ handed r (now (answer .exit)) (now (working .exit)) (now (counts .exit)) ≡ hostReplyOn 0 (mapOf (now (ground .entry))) (officesIn (now (list .entry))) q k direction (now (answer .entry)) (now (working .entry)) (now (counts .entry)) ⌝ }
 {
-    let number = invalid(found, q, k, answer, working, counts);
+    let number = invalid(found, q, k, direction, answer, working, counts);
     if number != 0 {
         put_counts(counts, 0, 0);
         return number;
     }
-    let ended = list_lines(ground, found, list, q as usize, k as usize, answer);
+    let quest = Quest {
+        place: q as usize,
+        direction,
+    };
+    let ended = list_lines(ground, found, list, quest, k as usize, answer);
     clear(working, LONG_BYTES * (SLOT_WORDS * found.offices));
     match ended {
         Walked::Done(total) => {

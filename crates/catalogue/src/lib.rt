@@ -35,26 +35,38 @@ pub extern "C" fn atlas_check(sheet: &[u8], distances: &mut [u8]) -> u32
     }
 }
 
-// 0 for a list of the k offices nearest by road to the place q, and else the first of 1 to 9 and 16 to 18 that is due. The list is 5k words
-// of 64 bits: number, low end, high end, stages walked and the gazetteer number of its place for each. The counts are two more: how many are listed, and the refinements.
+// 0 for a list of the k offices nearest by the road from the place q to them, or inward by the road from them to q, and else the first of 1 to 9 and 16 to
+// 18 that is due. The list is 5k words of 64 bits: number, low end, high end, stages walked and the gazetteer number of its place for each. The counts are two
+// more: how many are listed, and the refinements.
 #[no_mangle]
 pub extern "C" fn atlas_question(
     sheet: &[u8],
     q: u32,
     k: u32,
+    direction: u32,
     answer: &mut [u8],
     working: &mut [u8],
     counts: &mut [u8],
 ) -> u32
-    ensures rules { λ r. ⌜ handed r (now (answer .exit)) (now (working .exit)) (now (counts .exit)) ≡ hostReply (now (sheet .entry)) q k (now (answer .entry)) (now (working .entry)) (now (counts .entry)) ⌝ }
-    ensures nearest { λ r. ⌜ (Accepted (now (sheet .entry)) → HostValid (now (sheet .entry)) q k (now (answer .entry)) (now (working .entry)) (now (counts .entry)) → ListsNearest (now (sheet .entry)) q k (longsHeld (now (answer .entry))) (readBack (handed r (now (answer .exit)) (now (working .exit)) (now (counts .exit))))) ⌝ }
-    ensures thrifty { λ r. ⌜ (Accepted (now (sheet .entry)) → HostValid (now (sheet .entry)) q k (now (answer .entry)) (now (working .entry)) (now (counts .entry)) → RefinesThriftily (now (sheet .entry)) q k (readBack (handed r (now (answer .exit)) (now (working .exit)) (now (counts .exit))))) ⌝ }
+    ensures rules { λ r. ⌜ handed r (now (answer .exit)) (now (working .exit)) (now (counts .exit)) ≡ hostReply (now (sheet .entry)) q k direction (now (answer .entry)) (now (working .entry)) (now (counts .entry)) ⌝ }
+    ensures nearest { λ r. ⌜ (Accepted (now (sheet .entry)) → HostValid (now (sheet .entry)) q k direction (now (answer .entry)) (now (working .entry)) (now (counts .entry)) → ListsNearest (now (sheet .entry)) q k direction (longsHeld (now (answer .entry))) (readBack (handed r (now (answer .exit)) (now (working .exit)) (now (counts .exit))))) ⌝ }
+    ensures thrifty { λ r. ⌜ (Accepted (now (sheet .entry)) → HostValid (now (sheet .entry)) q k direction (now (answer .entry)) (now (working .entry)) (now (counts .entry)) → RefinesThriftily (now (sheet .entry)) q k direction (readBack (handed r (now (answer .exit)) (now (working .exit)) (now (counts .exit))))) ⌝ }
 {
     let laid = layout(sheet);
     match laid {
         Laid::Out(found) => {
             let at = list_at(found);
-            ask(sheet, found, &sheet[at..], q, k, answer, working, counts)
+            ask(
+                sheet,
+                found,
+                &sheet[at..],
+                q,
+                k,
+                direction,
+                answer,
+                working,
+                counts,
+            )
         }
         Laid::Refused(number) => {
             put_counts(counts, 0, 0);

@@ -8,7 +8,7 @@ use Rattle.paper.specs.Served.{Served, refused, served}
 use Rattle.paper.specs.Map.{Map, Offices}
 use Rattle.paper.specs.Sheet.{word, mapOf, officesOf}
 use Rattle.paper.specs.Layout.{layout}
-use Rattle.paper.specs.Quest.{outward}
+use Rattle.paper.specs.Quest.{directed}
 use Rattle.paper.specs.Listing.{State, listing}
 use Rattle.paper.specs.Test.{orElse}
 use Rattle.paper.specs.Reply.{Reply, invalid, walkOut, replyBy, replyOn, reply}
@@ -39,9 +39,9 @@ pub replied-true : (input : List ℕ) (n : ℕ) → unfit input ≡ 0 → Judged
 replied-true input n e J z = replied {table = J .table} e (rw z at (J .checked))
 
 -- no more offices are listed than there are
-pub count-most : (s : List ℕ) (q k : ℕ) (a w : List ℕ) → reply s q k a w .count ≤ officesOf s .count
+pub count-most : (s : List ℕ) (q k d : ℕ) (a w : List ℕ) → reply s q k d a w .count ≤ officesOf s .count
 unfolding reply replyOn
-count-most s q k a w = go (orElse (layout s) (invalid (mapOf s) (officesOf s) q k a w)) refl
+count-most s q k d a w = go (orElse (layout s) (invalid (mapOf s) (officesOf s) q k d a w)) refl
   where
     m : Map
     m = mapOf s
@@ -49,18 +49,19 @@ count-most s q k a w = go (orElse (layout s) (invalid (mapOf s) (officesOf s) q 
     o : Offices
     o = officesOf s
 
-    walk : Allowed m o q k a w → (r : Served State) → walkOut (o .count) k a w r .count ≤ o .count
+    walk : Allowed m o q k d a w → (r : Served State) → walkOut (o .count) k a w r .count ≤ o .count
     walk A (refused n) = omega arith
     walk A (served st) = A .enough
 
-    go : (n : ℕ) → orElse (layout s) (invalid m o q k a w) ≡ n → replyBy m (outward o q) k a w n .count ≤ o .count
+    go : (n : ℕ) → orElse (layout s) (invalid m o q k d a w) ≡ n → replyBy m (directed o q d) k a w n .count ≤ o .count
     go (suc n) e = omega arith
-    go zero e = walk (valid m o q k a w (or-right (layout s) _ e)) (listing m (outward o q) k)
+    go zero e = walk (valid m o q k d a w (or-right (layout s) _ e)) (listing m (directed o q d) k)
 
-pub program-is : (input : List ℕ) (q k : ℕ) (r : Reply) → q ≡ word input 0 → k ≡ word input 1 → r ≡ reply (sheetIn input) q k lentAnswer lentWorking → r ≡ programReply input
+pub program-is : (input : List ℕ) (q k d : ℕ) (r : Reply) → q ≡ word input 0 → k ≡ word input 1 → d ≡ word input 2 → r ≡ reply (sheetIn input) q k d lentAnswer lentWorking
+    → r ≡ programReply input
 unfolding programReply
-program-is input q k r a b e = e ∙ ap (λ (x : ℕ). reply (sheetIn input) x k lentAnswer lentWorking) a ∙ ap (λ (x : ℕ). reply (sheetIn input) (word input 0) x lentAnswer lentWorking) b
+program-is input q k d r a b c e = rw (← a, ← b, ← c) e
 
 pub program-count : (input : List ℕ) → unfit input ≡ 0 → (r : Reply) → r ≡ programReply input → r .count ≤ programOffices
 unfolding programReply
-program-count input h r e = omega (arith, ap (λ (x : Reply). x .count) e, count-most (sheetIn input) (word input 0) (word input 1) lentAnswer lentWorking, fit input h .offices)
+program-count input h r e = omega (arith, ap (λ (x : Reply). x .count) e, count-most (sheetIn input) (word input 0) (word input 1) (word input 2) lentAnswer lentWorking, fit input h .offices)

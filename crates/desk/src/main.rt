@@ -1,4 +1,4 @@
-// The program: reads q and k as two words and then a sheet from standard input, and prints the list or the refusal.
+// The program: reads q, k and the direction as three words and then a sheet from standard input, and prints the list or the refusal.
 mod serve;
 
 use crate::serve::serve;

@@ -79,7 +79,15 @@ fn ask(input: &[u8], output: &mut [u8]) -> usize
     let mut working = [0u64; WORKING];
     let q = word(input, 0);
     let k = word(input, 1);
-    let reply = question(&input[ASKED_BYTES..], q, k, &mut answer, &mut working);
+    let direction = word(input, 2);
+    let reply = question(
+        &input[ASKED_BYTES..],
+        q,
+        k,
+        direction,
+        &mut answer,
+        &mut working,
+    );
     put_reply(
         output,
         reply.number,

@@ -14,24 +14,24 @@ use Rattle.sheet.proofs.Room.{laid-number}
 use Rattle.nearest.proofs.Replies.{early, reply-badly-laid}
 
 -- over a sheet with nothing due in its layout, the reply is that over its map and its list
-pub laid-reply : (s : List ℕ) (q k : ℕ) (a w l : List ℕ) → layout s ≡ 0 → officesIn l ≡ officesOf s → replyOn 0 (mapOf s) (officesIn l) q k a w ≡ reply s q k a w
+pub laid-reply : (s : List ℕ) (q k d : ℕ) (a w l : List ℕ) → layout s ≡ 0 → officesIn l ≡ officesOf s → replyOn 0 (mapOf s) (officesIn l) q k d a w ≡ reply s q k d a w
 unfolding reply
-laid-reply s q k a w l e same =
-    ap (λ (o : Offices). replyOn 0 (mapOf s) o q k a w) same ∙ ap (λ (n : ℕ). replyOn n (mapOf s) (officesOf s) q k a w) (sym e)
+laid-reply s q k d a w l e same =
+    ap (λ (o : Offices). replyOn 0 (mapOf s) o q k d a w) same ∙ ap (λ (n : ℕ). replyOn n (mapOf s) (officesOf s) q k d a w) (sym e)
 
 -- refused by the layout: both slices untouched
-pub laid-refused : (s : List ℕ) (q k x : ℕ) (a w : List ℕ) → laid.Refused x ≡ laidOf s → early x a w ≡ reply s q k a w
+pub laid-refused : (s : List ℕ) (q k d x : ℕ) (a w : List ℕ) → laid.Refused x ≡ laidOf s → early x a w ≡ reply s q k d a w
 unfolding reply
-laid-refused s q k x a w e = let (n, is, l) = laid-number s x e in rw is (sym (reply-badly-laid (layout s) (mapOf s) (officesOf s) q k a w n l))
+laid-refused s q k d x a w e = let (n, is, l) = laid-number s x e in rw is (sym (reply-badly-laid (layout s) (mapOf s) (officesOf s) q k d a w n l))
 
 -- the clauses about an accepted sheet follow from the clause of the rules
-module _ (s : List ℕ) (q k : ℕ) (a w : List ℕ) (bytes : Bytes s) (r : Reply) (rules : r ≡ reply s q k a w) where
-  pub lists-nearest : Accepted s → Valid s q k a w → ListsNearest s q k a r
-  lists-nearest A g = subst (ListsNearest s q k a) (sym rules) (reply-answered s q k a w bytes A g .nearest)
+module _ (s : List ℕ) (q k d : ℕ) (a w : List ℕ) (bytes : Bytes s) (r : Reply) (rules : r ≡ reply s q k d a w) where
+  pub lists-nearest : Accepted s → Valid s q k d a w → ListsNearest s q k d a r
+  lists-nearest A g = subst (ListsNearest s q k d a) (sym rules) (reply-answered s q k d a w bytes A g .nearest)
 
-  pub refines-thriftily : Accepted s → Valid s q k a w → RefinesThriftily s q k r
-  refines-thriftily A g = subst (RefinesThriftily s q k) (sym rules) (reply-answered s q k a w bytes A g .thrifty)
+  pub refines-thriftily : Accepted s → Valid s q k d a w → RefinesThriftily s q k d r
+  refines-thriftily A g = subst (RefinesThriftily s q k d) (sym rules) (reply-answered s q k d a w bytes A g .thrifty)
 
 -- any two outcomes that the contract allows are equal
-pub question-one : (s : List ℕ) (q k : ℕ) (a w : List ℕ) (r r′ : Reply) → r ≡ reply s q k a w → r′ ≡ reply s q k a w → r ≡ r′
-question-one s q k a w r r′ e e′ = e ∙ sym e′
+pub question-one : (s : List ℕ) (q k d : ℕ) (a w : List ℕ) (r r′ : Reply) → r ≡ reply s q k d a w → r′ ≡ reply s q k d a w → r ≡ r′
+question-one s q k d a w r r′ e e′ = e ∙ sym e′

@@ -7,6 +7,7 @@ pub mod Text
 pub mod Stores
 pub mod Take
 pub mod Steps
+pub mod Quests
 pub mod Replies
 pub mod Advance
 pub mod Progress

@@ -7,9 +7,12 @@ use crate::slices::clear;
 use crate::walk::Walked;
 use crate::walk::walk;
 use paper::Counts;
+use paper::Quest;
+use paper::sizes::INWARD;
 use paper::sizes::LINE_WORDS;
 use paper::sizes::MOST_PLACES;
 use paper::sizes::MOST_STAGES;
+use paper::sizes::OUTWARD;
 use paper::sizes::SLOT_WORDS;
 use sheet::Laid;
 use sheet::layout;
@@ -22,14 +25,14 @@ ghost use lib.ListN.{length};
 ghost use Rattle.paper.specs.Sizes.{lineWords, slotWords, mostOffices};
 ghost use Rattle.paper.specs.Map.{Map, Offices};
 ghost use Rattle.paper.specs.Sheet.{mapOf, officesIn};
-ghost use Rattle.paper.specs.Quest.{outward};
+ghost use Rattle.paper.specs.Quest.{isDirection};
 ghost use Rattle.paper.specs.Listing.{listing};
 ghost use Rattle.paper.specs.Verdict.{Accepted};
 ghost use Rattle.paper.specs.Reply.{invalid as invalidOf, replyOn, reply, Valid, ListsNearest, RefinesThriftily};
 ghost use Rattle.sheet.specs.Ground.{Mapped, Roll};
 ghost use Rattle.nearest.specs.Working.{Beyond};
 ghost use Rattle.nearest.specs.Going.{Came};
-ghost use Rattle.nearest.specs.Question.{replied};
+ghost use Rattle.nearest.specs.Question.{questOn, replied};
 
 // What a question returns beside its slices: the number, 0 for a list; how many offices are listed; how many refinements were made.
 pub struct Reply {
@@ -48,12 +51,25 @@ fn refused(number: u32) -> Reply
     }
 }
 
+// Whether a number names a direction.
+fn is_direction(number: u32) -> bool
+    ensures { λ r. ⌜ r ≡ isDirection number ⌝ }
+{
+    if number == OUTWARD {
+        return true;
+    }
+    number == INWARD
+}
+
 // 0, or the first of 7, 8 and 9 that is due, for slices of so many words.
-pub fn invalid(counts: Counts, q: u32, k: u32, answer: usize, working: usize) -> u32
+pub fn invalid(counts: Counts, q: u32, k: u32, direction: u32, answer: usize, working: usize) -> u32
     requires { ⌜ counts .offices ≤ mostOffices ⌝ }
-    ensures { λ r. ⌜ ((m : Map) (o : Offices) (a w : List ℕ) → m .places ≡ counts .places → o .count ≡ counts .offices → length a ≡ answer → length w ≡ working → r ≡ invalidOf m o q k a w) ⌝ }
+    ensures { λ r. ⌜ ((m : Map) (o : Offices) (a w : List ℕ) → m .places ≡ counts .places → o .count ≡ counts .offices → length a ≡ answer → length w ≡ working → r ≡ invalidOf m o q k direction a w) ⌝ }
 {
     if counts.places <= q as usize {
+        return 7;
+    }
+    if !is_direction(direction) {
         return 7;
     }
     if k == 0 {
@@ -76,15 +92,15 @@ pub fn walk_mapped(
     ground: &[u8],
     counts: Counts,
     list: &[u8],
-    q: usize,
+    quest: Quest,
     k: usize,
     answer: &mut [u64],
     working: &mut [u64],
 ) -> Walked
     requires { ⌜ Mapped (now ground) counts ⌝ }
-    requires { ⌜ (Roll (now list) (counts .offices) (counts .places)) × (q < counts .places) × (1 ≤ k) × (k ≤ counts .offices) × (lineWords * k ≤ length (now answer)) × (slotWords * counts .offices ≤ length (now working)) ⌝ }
+    requires { ⌜ (Roll (now list) (counts .offices) (counts .places)) × (quest .place < counts .places) × (1 ≤ k) × (k ≤ counts .offices) × (lineWords * k ≤ length (now answer)) × (slotWords * counts .offices ≤ length (now working)) ⌝ }
     ensures { λ _. ⌜ Beyond (slotWords * counts .offices) (now (working .entry)) (now (working .exit)) ⌝ }
-    ensures { λ r. ⌜ Came k (listing (mapOf (now (ground .entry))) (outward (officesIn (now (list .entry))) q) k) (now (answer .entry)) (now (answer .exit)) r ⌝ }
+    ensures { λ r. ⌜ Came k (listing (mapOf (now (ground .entry))) (questOn (now (list .entry)) quest) k) (now (answer .entry)) (now (answer .exit)) r ⌝ }
 {
     let mut first = [0u32; MOST_PLACES];
     let mut tails = [0u32; MOST_STAGES];
@@ -105,7 +121,7 @@ pub fn walk_mapped(
         &heads,
         &lengths,
         list,
-        q,
+        quest,
         k,
         answer,
         working,
@@ -119,26 +135,23 @@ fn ask(
     list: &[u8],
     q: u32,
     k: u32,
+    direction: u32,
     answer: &mut [u64],
     working: &mut [u64],
 ) -> Reply
     requires { ⌜ Mapped (now ground) counts ⌝ }
     requires { ⌜ Roll (now list) (counts .offices) (counts .places) ⌝ }
-    ensures { λ r. ⌜ replied r (now (answer .exit)) (now (working .exit)) ≡ replyOn 0 (mapOf (now (ground .entry))) (officesIn (now (list .entry))) q k (now (answer .entry)) (now (working .entry)) ⌝ }
+    ensures { λ r. ⌜ replied r (now (answer .exit)) (now (working .exit)) ≡ replyOn 0 (mapOf (now (ground .entry))) (officesIn (now (list .entry))) q k direction (now (answer .entry)) (now (working .entry)) ⌝ }
 {
-    let number = invalid(counts, q, k, answer.len(), working.len());
+    let number = invalid(counts, q, k, direction, answer.len(), working.len());
     if number != 0 {
         return refused(number);
     }
-    let ended = walk_mapped(
-        ground,
-        counts,
-        list,
-        q as usize,
-        k as usize,
-        answer,
-        working,
-    );
+    let quest = Quest {
+        place: q as usize,
+        direction,
+    };
+    let ended = walk_mapped(ground, counts, list, quest, k as usize, answer, working);
     clear(working, SLOT_WORDS * counts.offices);
     match ended {
         Walked::Done(total) => Reply {
@@ -153,18 +166,35 @@ fn ask(
     }
 }
 
-// The k offices nearest by road to the place q: number, low end, high end, stages walked and its place's gazetteer number for each, in the first 5k
-// words of the answer slice. The first 6M words of the working slice are used, and 0 at the end. Any sheet is taken, accepted or not.
-pub fn question(sheet: &[u8], q: u32, k: u32, answer: &mut [u64], working: &mut [u64]) -> Reply
-    ensures rules { λ r. ⌜ replied r (now (answer .exit)) (now (working .exit)) ≡ reply (now (sheet .entry)) q k (now (answer .entry)) (now (working .entry)) ⌝ }
-    ensures nearest { λ r. ⌜ (Accepted (now (sheet .entry)) → Valid (now (sheet .entry)) q k (now (answer .entry)) (now (working .entry)) → ListsNearest (now (sheet .entry)) q k (now (answer .entry)) (replied r (now (answer .exit)) (now (working .exit)))) ⌝ }
-    ensures thrifty { λ r. ⌜ (Accepted (now (sheet .entry)) → Valid (now (sheet .entry)) q k (now (answer .entry)) (now (working .entry)) → RefinesThriftily (now (sheet .entry)) q k (replied r (now (answer .exit)) (now (working .exit)))) ⌝ }
+// The k offices nearest by the road from the place q to them, or inward by the road from them to q: number, low end, high end, stages walked and its
+// place's gazetteer number for each, in the first 5k words of the answer slice. The first 6M words of the working slice are used, and 0 at the end. Any
+// sheet is taken, accepted or not.
+pub fn question(
+    sheet: &[u8],
+    q: u32,
+    k: u32,
+    direction: u32,
+    answer: &mut [u64],
+    working: &mut [u64],
+) -> Reply
+    ensures rules { λ r. ⌜ replied r (now (answer .exit)) (now (working .exit)) ≡ reply (now (sheet .entry)) q k direction (now (answer .entry)) (now (working .entry)) ⌝ }
+    ensures nearest { λ r. ⌜ (Accepted (now (sheet .entry)) → Valid (now (sheet .entry)) q k direction (now (answer .entry)) (now (working .entry)) → ListsNearest (now (sheet .entry)) q k direction (now (answer .entry)) (replied r (now (answer .exit)) (now (working .exit)))) ⌝ }
+    ensures thrifty { λ r. ⌜ (Accepted (now (sheet .entry)) → Valid (now (sheet .entry)) q k direction (now (answer .entry)) (now (working .entry)) → RefinesThriftily (now (sheet .entry)) q k direction (replied r (now (answer .exit)) (now (working .exit)))) ⌝ }
 {
     let laid = layout(sheet);
     match laid {
         Laid::Out(counts) => {
             let at = list_at(counts);
-            ask(sheet, counts, &sheet[at..], q, k, answer, working)
+            ask(
+                sheet,
+                counts,
+                &sheet[at..],
+                q,
+                k,
+                direction,
+                answer,
+                working,
+            )
         }
         Laid::Refused(number) => refused(number),
     }

@@ -7,7 +7,9 @@ use crate::tree::put_back;
 use crate::tree::take_leader;
 use mintree::build;
 use paper::Counts;
+use paper::Quest;
 use paper::Trail;
+use paper::sizes::OUTWARD;
 use quadtree::walk::Step;
 use quadtree::walk::refine;
 use quadtree::walk::start;
@@ -21,11 +23,14 @@ ghost use Rattle.paper.specs.Sizes.{lineWords, slotWords};
 ghost use Rattle.paper.specs.Map.{Map};
 ghost use Rattle.paper.specs.Sheet.{mapOf, officesIn};
 ghost use Rattle.paper.specs.Ground.{SameGround};
-ghost use Rattle.paper.specs.Quest.{Quest, outward};
+ghost use Rattle.paper.specs.Quest.{Quest as QuestOf, byDirection};
+ghost use Rattle.paper.specs.Trail.{start as startOf, refine as refineOf};
+ghost use Rattle.paper.specs.Bounds.{Sane};
 ghost use Rattle.paper.specs.Listing.{Slot, State, lineOf, begin, run, enough, listing};
 ghost use Rattle.sheet.specs.Ground.{Ground, Charted, Chart, Roll};
 ghost use Rattle.nearest.specs.Working.{Shown, Beyond};
-ghost use Rattle.quadtree.specs.Walks.{trailOf};
+ghost use Rattle.quadtree.specs.Walks.{trailOf, stepOf};
+ghost use Rattle.nearest.specs.Question.{questOn};
 ghost use Rattle.nearest.specs.Going.{Wrote, Fresh, Waiting, Begun, OneStarted, AllStarted, Stepped, Came};
 
 // What one step does: the leader is listed, or refined once, or its refinement is refused.
@@ -55,23 +60,69 @@ fn stand(list: &[u8], i: usize) -> usize
     word(list, i) as usize
 }
 
-// The first interval of office i, from q.
+// One of two places: the first outward, and else the second.
+fn by_direction(direction: u32, outward: usize, inward: usize) -> usize
+    ensures { λ r. ⌜ r ≡ byDirection direction outward inward ⌝ }
+{
+    if direction == OUTWARD {
+        return outward;
+    }
+    inward
+}
+
+// The trail of office i before any refinement.
+fn first_trail(ground: &[u8], counts: Counts, list: &[u8], quest: Quest, i: usize) -> Step
+    requires { ⌜ Ground (now ground) counts ⌝ }
+    requires { ⌜ Roll (now list) (counts .offices) (counts .places) ⌝ }
+    requires { ⌜ (quest .place < counts .places) × (i < counts .offices) ⌝ }
+    ensures { λ r. ⌜ r ≡ stepOf (startOf (mapOf (now (ground .entry))) (questOn (now (list .entry)) quest .from i) (questOn (now (list .entry)) quest .to i)) ⌝ }
+{
+    let place = stand(list, i);
+    let from = by_direction(quest.direction, quest.place, place);
+    let to = by_direction(quest.direction, place, quest.place);
+    start(ground, counts, from, to)
+}
+
+// The trail t of office i after one refinement, on any map that has the ground and the book.
+fn next_trail(
+    ground: &[u8],
+    counts: Counts,
+    first: &[u32],
+    heads: &[u32],
+    lengths: &[u32],
+    list: &[u8],
+    quest: Quest,
+    i: usize,
+    t: Trail,
+) -> Step
+    requires { ⌜ Ground (now ground) counts ⌝ }
+    requires { ⌜ Chart (now ground) (now first) (now heads) (now lengths) ⌝ }
+    requires { ⌜ Roll (now list) (counts .offices) (counts .places) ⌝ }
+    requires { ⌜ (quest .place < counts .places) × (i < counts .offices) × (Sane (counts .places) (trailOf t)) ⌝ }
+    ensures { λ r. ⌜ ((m : Map) → Charted (now (ground .entry)) (now (first .entry)) (now (heads .entry)) (now (lengths .entry)) m → r ≡ stepOf (refineOf m (questOn (now (list .entry)) quest .to i) (trailOf t))) ⌝ }
+{
+    let place = stand(list, i);
+    let sought = by_direction(quest.direction, place, quest.place);
+    refine(ground, counts, first, heads, lengths, sought, t)
+}
+
+// The first interval of office i, in the working slice.
 fn set_out(
     ground: &[u8],
     counts: Counts,
     list: &[u8],
-    q: usize,
+    quest: Quest,
     i: usize,
     working: &mut [u64],
 ) -> Started
     requires { ⌜ Ground (now ground) counts ⌝ }
     requires { ⌜ Roll (now list) (counts .offices) (counts .places) ⌝ }
-    requires { ⌜ (q < counts .places) × (i < counts .offices) × (slotWords * counts .offices ≤ length (now working)) ⌝ }
+    requires { ⌜ (quest .place < counts .places) × (i < counts .offices) × (slotWords * counts .offices ≤ length (now working)) ⌝ }
     ensures { λ _. ⌜ Beyond (slotWords * counts .offices) (now (working .entry)) (now (working .exit)) ⌝ }
-    ensures { λ r. ⌜ OneStarted (mapOf (now (ground .entry))) (outward (officesIn (now (list .entry))) q) i (now (working .entry)) (now (working .exit)) r ⌝ }
+    ensures { λ r. ⌜ OneStarted (mapOf (now (ground .entry))) (questOn (now (list .entry)) quest) i (now (working .entry)) (now (working .exit)) r ⌝ }
 {
     let n = counts.offices;
-    let first = start(ground, counts, q, stand(list, i));
+    let first = first_trail(ground, counts, list, quest, i);
     match first {
         Step::To(t) => {
             let low = t.low;
@@ -84,16 +135,22 @@ fn set_out(
 }
 
 // The first intervals in office order.
-fn set_out_all(ground: &[u8], counts: Counts, list: &[u8], q: usize, working: &mut [u64]) -> Started
+fn set_out_all(
+    ground: &[u8],
+    counts: Counts,
+    list: &[u8],
+    quest: Quest,
+    working: &mut [u64],
+) -> Started
     requires { ⌜ Ground (now ground) counts ⌝ }
     requires { ⌜ Roll (now list) (counts .offices) (counts .places) ⌝ }
-    requires { ⌜ (q < counts .places) × (1 ≤ counts .offices) × (slotWords * counts .offices ≤ length (now working)) ⌝ }
+    requires { ⌜ (quest .place < counts .places) × (1 ≤ counts .offices) × (slotWords * counts .offices ≤ length (now working)) ⌝ }
     ensures { λ _. ⌜ Beyond (slotWords * counts .offices) (now (working .entry)) (now (working .exit)) ⌝ }
-    ensures { λ r. ⌜ AllStarted (mapOf (now (ground .entry))) (outward (officesIn (now (list .entry))) q) (now (working .exit)) r ⌝ }
+    ensures { λ r. ⌜ AllStarted (mapOf (now (ground .entry))) (questOn (now (list .entry)) quest) (now (working .exit)) r ⌝ }
 {
     let n = counts.offices;
     for i in 0..n {
-        let begun = set_out(ground, counts, list, q, i, working);
+        let begun = set_out(ground, counts, list, quest, i, working);
         if let Started::Refused(number) = begun {
             return Started::Refused(number);
         }
@@ -110,14 +167,15 @@ fn advance(
     heads: &[u32],
     lengths: &[u32],
     list: &[u8],
+    quest: Quest,
     working: &mut [u64],
 ) -> Moved
     requires { ⌜ Ground (now ground) counts ⌝ }
     requires { ⌜ Chart (now ground) (now first) (now heads) (now lengths) ⌝ }
     requires { ⌜ Roll (now list) (counts .offices) (counts .places) ⌝ }
-    requires { ⌜ Waiting (counts .places) (counts .offices) (now working) ⌝ }
+    requires { ⌜ (quest .place < counts .places) × Waiting (counts .places) (counts .offices) (now working) ⌝ }
     ensures { λ _. ⌜ Beyond (slotWords * counts .offices) (now (working .entry)) (now (working .exit)) ⌝ }
-    ensures { λ r. ⌜ ((m : Map) (q : ℕ) → Charted (now (ground .entry)) (now (first .entry)) (now (heads .entry)) (now (lengths .entry)) m → (st : State) → Shown (counts .places) (counts .offices) (now (working .entry)) (st .slots) → Stepped m (outward (officesIn (now (list .entry))) q) st (now (working .exit)) r) ⌝ }
+    ensures { λ r. ⌜ ((m : Map) → Charted (now (ground .entry)) (now (first .entry)) (now (heads .entry)) (now (lengths .entry)) m → (st : State) → Shown (counts .places) (counts .offices) (now (working .entry)) (st .slots) → Stepped m (questOn (now (list .entry)) quest) st (now (working .exit)) r) ⌝ }
 {
     let n = counts.offices;
     let lead = take_leader(working, n);
@@ -126,8 +184,17 @@ fn advance(
     if lead.clear {
         return Moved::Listed(number, trail);
     }
-    let v = stand(list, number);
-    let next = refine(ground, counts, first, heads, lengths, v, trail);
+    let next = next_trail(
+        ground,
+        counts,
+        first,
+        heads,
+        lengths,
+        list,
+        quest,
+        number,
+        trail,
+    );
     match next {
         Step::To(t) => {
             put_back(working, n, number, t);
@@ -150,7 +217,7 @@ fn list_office(
     requires { ⌜ Ground (now ground) counts ⌝ }
     requires { ⌜ Roll (now list) (counts .offices) (counts .places) ⌝ }
     requires { ⌜ (i < counts .offices) × (lineWords * r + lineWords ≤ length (now answer)) ⌝ }
-    ensures { λ _. ⌜ ((m : Map) (x : Quest) → SameGround m (mapOf (now (ground .entry))) → x .stand i ≡ officesIn (now (list .entry)) .stand i → Wrote r (lineOf m x i (trailOf t)) (now (answer .entry)) (now (answer .exit))) ⌝ }
+    ensures { λ _. ⌜ ((m : Map) (x : QuestOf) → SameGround m (mapOf (now (ground .entry))) → x .stand i ≡ officesIn (now (list .entry)) .stand i → Wrote r (lineOf m x i (trailOf t)) (now (answer .entry)) (now (answer .exit))) ⌝ }
 {
     let place = stand(list, i);
     let gazetteer = gazetteer_of(ground, place);
@@ -165,6 +232,7 @@ fn list_nearest(
     heads: &[u32],
     lengths: &[u32],
     list: &[u8],
+    quest: Quest,
     k: usize,
     answer: &mut [u64],
     working: &mut [u64],
@@ -173,14 +241,14 @@ fn list_nearest(
     requires { ⌜ Chart (now ground) (now first) (now heads) (now lengths) ⌝ }
     requires { ⌜ Roll (now list) (counts .offices) (counts .places) ⌝ }
     requires { ⌜ Begun (counts .places) (counts .offices) (now working) ⌝ }
-    requires { ⌜ (k ≤ counts .offices) × (lineWords * k ≤ length (now answer)) ⌝ }
+    requires { ⌜ (quest .place < counts .places) × (k ≤ counts .offices) × (lineWords * k ≤ length (now answer)) ⌝ }
     ensures { λ _. ⌜ Beyond (slotWords * counts .offices) (now (working .entry)) (now (working .exit)) ⌝ }
-    ensures { λ r. ⌜ ((m : Map) (q : ℕ) → Charted (now (ground .entry)) (now (first .entry)) (now (heads .entry)) (now (lengths .entry)) m → (ss : List Slot) → Shown (counts .places) (counts .offices) (now (working .entry)) ss → Fresh (counts .offices) ss → Came k (run m (outward (officesIn (now (list .entry))) q) (enough m (outward (officesIn (now (list .entry))) q) k) k (begin ss)) (now (answer .entry)) (now (answer .exit)) r) ⌝ }
+    ensures { λ r. ⌜ ((m : Map) → Charted (now (ground .entry)) (now (first .entry)) (now (heads .entry)) (now (lengths .entry)) m → (ss : List Slot) → Shown (counts .places) (counts .offices) (now (working .entry)) ss → Fresh (counts .offices) ss → Came k (run m (questOn (now (list .entry)) quest) (enough m (questOn (now (list .entry)) quest) k) k (begin ss)) (now (answer .entry)) (now (answer .exit)) r) ⌝ }
 {
     let mut listed = 0;
     let mut total = 0;
     while listed < k {
-        let moved = advance(ground, counts, first, heads, lengths, list, working);
+        let moved = advance(ground, counts, first, heads, lengths, list, quest, working);
         match moved {
             Moved::Listed(number, trail) => {
                 list_office(ground, counts, list, number, trail, listed, answer);
@@ -197,7 +265,7 @@ fn list_nearest(
     Walked::Done(total)
 }
 
-// The listing of k offices from q, on any map that has the ground and the book.
+// The listing of k offices, on any map that has the ground and the book.
 pub fn walk(
     ground: &[u8],
     counts: Counts,
@@ -205,7 +273,7 @@ pub fn walk(
     heads: &[u32],
     lengths: &[u32],
     list: &[u8],
-    q: usize,
+    quest: Quest,
     k: usize,
     answer: &mut [u64],
     working: &mut [u64],
@@ -213,11 +281,11 @@ pub fn walk(
     requires { ⌜ Ground (now ground) counts ⌝ }
     requires { ⌜ Chart (now ground) (now first) (now heads) (now lengths) ⌝ }
     requires { ⌜ Roll (now list) (counts .offices) (counts .places) ⌝ }
-    requires { ⌜ (q < counts .places) × (1 ≤ k) × (k ≤ counts .offices) × (lineWords * k ≤ length (now answer)) × (slotWords * counts .offices ≤ length (now working)) ⌝ }
+    requires { ⌜ (quest .place < counts .places) × (1 ≤ k) × (k ≤ counts .offices) × (lineWords * k ≤ length (now answer)) × (slotWords * counts .offices ≤ length (now working)) ⌝ }
     ensures { λ _. ⌜ Beyond (slotWords * counts .offices) (now (working .entry)) (now (working .exit)) ⌝ }
-    ensures { λ r. ⌜ ((m : Map) → Charted (now (ground .entry)) (now (first .entry)) (now (heads .entry)) (now (lengths .entry)) m → Came k (listing m (outward (officesIn (now (list .entry))) q) k) (now (answer .entry)) (now (answer .exit)) r) ⌝ }
+    ensures { λ r. ⌜ ((m : Map) → Charted (now (ground .entry)) (now (first .entry)) (now (heads .entry)) (now (lengths .entry)) m → Came k (listing m (questOn (now (list .entry)) quest) k) (now (answer .entry)) (now (answer .exit)) r) ⌝ }
 {
-    let begun = set_out_all(ground, counts, list, q, working);
+    let begun = set_out_all(ground, counts, list, quest, working);
     if let Started::Refused(number) = begun {
         return Walked::Refused(number);
     }
@@ -228,6 +296,7 @@ pub fn walk(
         heads,
         lengths,
         list,
+        quest,
         k,
         answer,
         working,

@@ -12,7 +12,7 @@ use Rattle.paper.specs.Sizes.{lineWords, slotWords, mostOffices, wordByt
 use Rattle.paper.specs.Test.{due, orElse}
 use Rattle.paper.specs.Served.{Served, refused, served}
 use Rattle.paper.specs.Map.{Map, Offices}
-use Rattle.paper.specs.Quest.{Quest, outward}
+use Rattle.paper.specs.Quest.{Quest, directed}
 use Rattle.paper.specs.Sheet.{mapOf, officesOf}
 use Rattle.paper.specs.Layout.{Bytes, layout}
 use Rattle.paper.specs.Slice.{cleared}
@@ -42,42 +42,42 @@ module _ {laid : ℕ} {m : Map} {before : List ℕ} (h : laid ≡ 0 → LaidOut 
   host-checked-truth long C = checked-truth h (omega (arith, words-size wordBytes (length before / wordBytes) before)) (C .checked)
 
 -- what is due, by the words and then by the counts
-module _ (m : Map) (o : Offices) (q k : ℕ) (answer working counts : List ℕ) where
+module _ (m : Map) (o : Offices) (q k d : ℕ) (answer working counts : List ℕ) where
   abbrev early : ℕ
-  early = invalid m o q k (longsHeld answer) (longsHeld working)
+  early = invalid m o q k d (longsHeld answer) (longsHeld working)
 
   abbrev late : ℕ
   late = due (leb countsBytes (length counts)) 9
 
-  pub invalid-words : (n : ℕ) → early ≡ n → (n ≡ 0 → ⊥) → hostInvalid m o q k answer working counts ≡ n
+  pub invalid-words : (n : ℕ) → early ≡ n → (n ≡ 0 → ⊥) → hostInvalid m o q k d answer working counts ≡ n
   unfolding hostInvalid
   invalid-words zero e ne = absurd (ne refl)
   invalid-words (suc n) e ne = or-first early late n e
 
-  pub invalid-counts : early ≡ 0 → length counts < countsBytes → hostInvalid m o q k answer working counts ≡ 9
+  pub invalid-counts : early ≡ 0 → length counts < countsBytes → hostInvalid m o q k d answer working counts ≡ 9
   unfolding hostInvalid
   invalid-counts e h = or-next early late e ∙ ap (λ (t : Bool). due t 9) (lt-leb countsBytes (length counts) h)
 
-  pub invalid-none : early ≡ 0 → countsBytes ≤ length counts → hostInvalid m o q k answer working counts ≡ 0
+  pub invalid-none : early ≡ 0 → countsBytes ≤ length counts → hostInvalid m o q k d answer working counts ≡ 0
   unfolding hostInvalid
   invalid-none e h = or-next early late e ∙ ap (λ (t : Bool). due t 9) (le-leb countsBytes (length counts) h)
 
 -- a question with nothing due is the question of document 01 over the words
-module _ (laid : ℕ) (m : Map) (o : Offices) (q k : ℕ) (answer working counts : List ℕ) (valid : HostValidOn m o q k answer working counts) where
+module _ (laid : ℕ) (m : Map) (o : Offices) (q k d : ℕ) (answer working counts : List ℕ) (valid : HostValidOn m o q k d answer working counts) where
   abbrev room : ℕ
   room = due (leb countsBytes (length counts)) 9
 
-  pub host-valid : invalid m o q k (longsHeld answer) (longsHeld working) ≡ 0
+  pub host-valid : invalid m o q k d (longsHeld answer) (longsHeld working) ≡ 0
   unfolding hostInvalid
-  host-valid = or-left (invalid m o q k (longsHeld answer) (longsHeld working)) room valid
+  host-valid = or-left (invalid m o q k d (longsHeld answer) (longsHeld working)) room valid
 
   pub host-room : countsBytes ≤ length counts
   unfolding hostInvalid
-  host-room = leb-true _ _ (due-true (leb countsBytes (length counts)) 9 (omega arith) (or-right (invalid m o q k (longsHeld answer) (longsHeld working)) room valid))
+  host-room = leb-true _ _ (due-true (leb countsBytes (length counts)) 9 (omega arith) (or-right (invalid m o q k d (longsHeld answer) (longsHeld working)) room valid))
 
-  pub host-words : hostReplyOn laid m o q k answer working counts ≡ inBytes answer working counts (replyOn laid m o q k (longsHeld answer) (longsHeld working))
+  pub host-words : hostReplyOn laid m o q k d answer working counts ≡ inBytes answer working counts (replyOn laid m o q k d (longsHeld answer) (longsHeld working))
   unfolding hostReplyOn replyOn
-  host-words = ap (λ (n : ℕ). inBytes answer working counts (replyBy m (outward o q) k (longsHeld answer) (longsHeld working) (orElse laid n))) (valid ∙ sym host-valid)
+  host-words = ap (λ (n : ℕ). inBytes answer working counts (replyBy m (directed o q d) k (longsHeld answer) (longsHeld working) (orElse laid n))) (valid ∙ sym host-valid)
 
 -- the words of a reply have room in 64 bits
 pub record WordsFit (r : Reply) : Type 0 where
@@ -142,41 +142,41 @@ walk-fits x k a w L few most F G (served st) W = record {
 }
 
 -- what a host reads in its slices
-module _ (s : List ℕ) (q k : ℕ) (answer working counts : List ℕ) (sheet : Bytes s) (a : Bytes answer) (w : Bytes working) where
+module _ (s : List ℕ) (q k d : ℕ) (answer working counts : List ℕ) (sheet : Bytes s) (a : Bytes answer) (w : Bytes working) where
   abbrev hosted : HostReply
-  hosted = hostReply s q k answer working counts
+  hosted = hostReply s q k d answer working counts
 
   abbrev inWords : Reply
-  inWords = reply s q k (longsHeld answer) (longsHeld working)
+  inWords = reply s q k d (longsHeld answer) (longsHeld working)
 
   held-fits : (b : List ℕ) → Bytes b → Fit longBytes (longsHeld b)
   held-fits b B = words-fit longBytes (length b / longBytes) b B (omega arith)
 
   -- after a valid question on any sheet whose layout holds: the reply in words, no number of which is cut by its 64 bits
-  pub host-read : layout s ≡ 0 → HostValid s q k answer working counts → readBack hosted ≡ inWords
+  pub host-read : layout s ≡ 0 → HostValid s q k d answer working counts → readBack hosted ≡ inWords
   unfolding hostReply reply replyOn
   host-read laid valid =
-      ap (λ (h : HostReply). readBack h) (host-words (layout s) (mapOf s) (officesOf s) q k answer working counts valid)
-      ∙ read-back answer working counts inWords (host-room (layout s) (mapOf s) (officesOf s) q k answer working counts valid) (reply-kept s q k (longsHeld answer) (longsHeld working))
-      (subst WordsFit (sym walked) (walk-fits x k _ _ (laid-out s sheet laid) (offices-few s laid) most (held-fits answer a) (held-fits working w) (listing (mapOf s) x k) (sheet-listed s q k (longsHeld answer) (longsHeld working) sheet laid none)))
+      ap (λ (h : HostReply). readBack h) (host-words (layout s) (mapOf s) (officesOf s) q k d answer working counts valid)
+      ∙ read-back answer working counts inWords (host-room (layout s) (mapOf s) (officesOf s) q k d answer working counts valid) (reply-kept s q k d (longsHeld answer) (longsHeld working))
+      (subst WordsFit (sym walked) (walk-fits x k _ _ (laid-out s sheet laid) (offices-few s laid) most (held-fits answer a) (held-fits working w) (listing (mapOf s) x k) (sheet-listed s q k d (longsHeld answer) (longsHeld working) sheet laid none)))
     where
       x : Quest
-      x = questOf s q
+      x = questOf s q d
 
-      none : Valid s q k (longsHeld answer) (longsHeld working)
-      none = host-valid (layout s) (mapOf s) (officesOf s) q k answer working counts valid
+      none : Valid s q k d (longsHeld answer) (longsHeld working)
+      none = host-valid (layout s) (mapOf s) (officesOf s) q k d answer working counts valid
 
       most : k ≤ officesOf s .count
-      most = allowed (mapOf s) (officesOf s) q k (longsHeld answer) (longsHeld working) none .enough
+      most = allowed (mapOf s) (officesOf s) q k d (longsHeld answer) (longsHeld working) none .enough
 
       walked : inWords ≡ walkOut (officesOf s .count) k (longsHeld answer) (longsHeld working) (listing (mapOf s) x k)
       walked = ap (replyBy (mapOf s) x k (longsHeld answer) (longsHeld working)) (or-zero (layout s) _ laid none)
 
   -- on an accepted sheet, what a valid question promises
-  pub host-answered : Accepted s → HostValid s q k answer working counts → Answered s q k (longsHeld answer) (readBack hosted)
+  pub host-answered : Accepted s → HostValid s q k d answer working counts → Answered s q k d (longsHeld answer) (readBack hosted)
   host-answered A valid =
-      subst (Answered s q k (longsHeld answer)) (sym (host-read (A .laid) valid))
-      (reply-answered s q k (longsHeld answer) (longsHeld working) sheet A (host-valid (layout s) (mapOf s) (officesOf s) q k answer working counts valid))
+      subst (Answered s q k d (longsHeld answer)) (sym (host-read (A .laid) valid))
+      (reply-answered s q k d (longsHeld answer) (longsHeld working) sheet A (host-valid (layout s) (mapOf s) (officesOf s) q k d answer working counts valid))
 
   -- on any sheet, where the question is not refused
   pub host-below : hosted .number ≡ 0 → WordsBelow k (readBack hosted)
@@ -185,11 +185,11 @@ module _ (s : List ℕ) (q k : ℕ) (answer working counts : List ℕ) (sheet : 
       let none : early ≡ 0 = go early h in
       let laid : layout s ≡ 0 = or-left (layout s) _ none in
       let same : readBack hosted ≡ inWords = host-read laid (or-right (layout s) _ none) in
-      subst (WordsBelow k) (sym same) (reply-below s q k (longsHeld answer) (longsHeld working) sheet (sym (ap (λ (r : Reply). r .number) same) ∙ h))
+      subst (WordsBelow k) (sym same) (reply-below s q k d (longsHeld answer) (longsHeld working) sheet (sym (ap (λ (r : Reply). r .number) same) ∙ h))
     where
       early : ℕ
-      early = orElse (layout s) (hostInvalid (mapOf s) (officesOf s) q k answer working counts)
+      early = orElse (layout s) (hostInvalid (mapOf s) (officesOf s) q k d answer working counts)
 
-      go : (n : ℕ) → replyBy (mapOf s) (questOf s q) k (longsHeld answer) (longsHeld working) n .number ≡ 0 → n ≡ 0
+      go : (n : ℕ) → replyBy (mapOf s) (questOf s q d) k (longsHeld answer) (longsHeld working) n .number ≡ 0 → n ≡ 0
       go zero e = refl
       go (suc n) e = absurd (omega arith)

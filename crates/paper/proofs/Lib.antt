@@ -1,6 +1,7 @@
 pub mod Holds
 pub mod Count
 pub mod Test
+pub mod Direction
 pub mod LaidOut
 pub mod Road
 pub mod Marked

@@ -6,6 +6,7 @@ use mathlib.Core.List.{List, [], _∷_, _++_}
 use lib.Dec.{leb, ltb}
 use lib.ListN.{length, getD, take, drop, replicate}
 use borrow.Author.Tests.{leb-true, ltb-true}
+use Rattle.paper.specs.Sizes.{outwardly, inwardly}
 use Rattle.paper.specs.Test.{every}
 use Rattle.paper.specs.Served.{served}
 use Rattle.paper.specs.Sheet.{mapOf, officesOf, word}
@@ -15,10 +16,10 @@ use Rattle.paper.specs.Road.{arrived, along, IsD}
 use Rattle.paper.specs.Layout.{Bytes, layout}
 use Rattle.paper.specs.Verdict.{verdict}
 use Rattle.paper.specs.Trail.{start, refine}
-use Rattle.paper.specs.Quest.{outward}
+use Rattle.paper.specs.Quest.{outward, inward}
 use Rattle.paper.specs.Listing.{listing}
 use Rattle.paper.specs.Reply.{reply}
-use Rattle.paper.specs.Marked.{bytes, words, sheet, map, offices, line, outcome, MarkedTable}
+use Rattle.paper.specs.Marked.{bytes, words, sheet, map, offices, line, outcome, MarkedTable, MarkedInward}
 use Rattle.paper.proofs.Test.{every-true}
 use Rattle.paper.proofs.Road.{road-least}
 
@@ -82,13 +83,37 @@ marked = record {
   p10 = refl;
 }
 
+-- 3 to 0, and from there as above
+from-3-to-2 : IsD map 3 2 20
+unfolding mapOf sheet word every
+from-3-to-2 = record {
+  road = along 5 (ltb-true 5 6 refl) refl (from-0-to-2 .road);
+  least = λ l r. road-least (λ u. table u 2) refl (least-by 2 refl) r;
+}
+
+from-1-to-2 : IsD map 1 2 5
+unfolding mapOf sheet word every
+from-1-to-2 = record {
+  road = along 3 (ltb-true 3 6 refl) refl arrived;
+  least = λ l r. road-least (λ u. table u 2) refl (least-by 2 refl) r;
+}
+
+pub marked-inward : MarkedInward
+unfolding start listing mapOf officesOf sheet word
+marked-inward = record { roads = (from-0-to-2, from-3-to-2, from-1-to-2); firsts = (refl, refl, refl); list = refl }
+
 -- two offices at place 3, asked from place 1: the second reaches its length while the first still waits at it, and the lower number is listed first
 equal-roads : outcome (listing map (outward (record { count = 2; stand = λ i. 3 }) 1) 2) ≡ served (record { total = 2; lines = line 0 15 15 1 104 ∷ line 1 15 15 1 104 ∷ [] })
 unfolding listing mapOf sheet word
 equal-roads = refl
 
--- the reply to q = 2, k = 2 over slices that are one word longer than needed and hold sevens
-question-replied : reply sheet 2 2 (replicate 11 7) (replicate 19 7) ≡ record {
+-- inward to place 3, office 2 leads with 4 to 15 while office 0 waits at 9: it is refined once, towards place 3
+inward-refined : outcome (listing map (inward offices 3) 3) ≡ served (record { total = 1; lines = line 1 0 0 0 104 ∷ line 0 9 9 0 101 ∷ line 2 15 15 1 102 ∷ [] })
+unfolding listing mapOf officesOf sheet word
+inward-refined = refl
+
+-- the replies to q = 2, k = 2, outward and inward, over slices that are one word longer than needed and hold sevens
+question-replied : reply sheet 2 2 outwardly (replicate 11 7) (replicate 19 7) ≡ record {
   number = 0;
   count = 2;
   refinements = 5;
@@ -97,6 +122,21 @@ question-replied : reply sheet 2 2 (replicate 11 7) (replicate 19 7) ≡ record 
 }
 unfolding reply sheet word
 question-replied = refl
+
+inward-replied : reply sheet 2 2 inwardly (replicate 11 7) (replicate 19 7) ≡ record {
+  number = 0;
+  count = 2;
+  refinements = 0;
+  answer = 2 ∷ 5 ∷ 5 ∷ 0 ∷ 102 ∷ 0 ∷ 11 ∷ 11 ∷ 0 ∷ 101 ∷ 7 ∷ [];
+  working = replicate 18 0 ++ (7 ∷ []);
+}
+unfolding reply sheet word
+inward-replied = refl
+
+-- a direction that is neither, with a place, k and slices that are refused by themselves too: 7 is given, and nothing is touched
+neither-replied : reply sheet 2 2 2 (replicate 1 7) [] ≡ record { number = 7; count = 0; refinements = 0; answer = 7 ∷ []; working = [] }
+unfolding reply sheet word
+neither-replied = refl
 
 -- the words with one block more, of place 0, that covers place 0's own cell alone: the 34th word on
 own-block : List ℕ

@@ -9,13 +9,13 @@ use lib.Dec.{leb, ltb}
 use lib.ListN.{length, getD, drop, length-append, length-drop, List·getD-append}
 use lib.Seq.{getD-drop, drop-append-seam}
 use borrow.Author.Tests.{leb-true, ltb-true}
-use Rattle.paper.specs.Sizes.{lineWords, slotWords, mostOffices, endBelow}
+use Rattle.paper.specs.Sizes.{lineWords, slotWords, mostOffices, endBelow, inwardly}
 use Rattle.paper.specs.Test.{both, due, orElse}
 use Rattle.paper.specs.Served.{Served, refused, served}
 use Rattle.paper.specs.Map.{Map, Offices}
 use Rattle.paper.specs.Sheet.{mapOf, officesOf}
 use Rattle.paper.proofs.LaidOut.{LaidOut}
-use Rattle.paper.specs.Quest.{Quest, outward}
+use Rattle.paper.specs.Quest.{Quest, isDirection, directed}
 use Rattle.paper.specs.Layout.{Bytes, layout, officesHold}
 use Rattle.paper.specs.Verdict.{AcceptedOn, Accepted}
 use Rattle.paper.specs.Listing.{Line, State, lineAt, listing}
@@ -24,6 +24,7 @@ use Rattle.paper.specs.Bounds.{LineWithin, ListedWithin, WordsBelow}
 use Rattle.paper.specs.Reply.{Reply, invalid, ValidOn, Valid, lineOut, linesOut, walkOut, replyBy, replyOn, reply, endOf, endedOn, questOf, AnsweredOn, Answered}
 use Rattle.paper.proofs.Holds.{On, Any}
 use Rattle.paper.proofs.Test.{both-left, both-right, due-true, or-left, or-right, or-zero, or-most, due-most}
+use Rattle.paper.proofs.Direction.{direction-most, by-within}
 use Rattle.paper.proofs.Laid.{passed, laid-out, offices-stand, offices-few}
 use Rattle.paper.proofs.Cleared.{cleared-size}
 use Rattle.paper.proofs.Walk.{Walk}
@@ -32,40 +33,43 @@ use Rattle.paper.proofs.Bounds.{listing-within}
 use Rattle.paper.proofs.Answer.{seen, answered}
 
 -- none of 7, 8 and 9 is due, in plain sentences
-pub record Allowed (m : Map) (o : Offices) (q k : ℕ) (answer working : List ℕ) : Type 0 where
+pub record Allowed (m : Map) (o : Offices) (q k d : ℕ) (answer working : List ℕ) : Type 0 where
   pub place : q < m .places
+  pub direction : d ≤ inwardly
   pub one : 1 ≤ k
   pub enough : k ≤ o .count
   pub answers : lineWords * k ≤ length answer
   pub works : slotWords * o .count ≤ length working
 
-pub valid : (m : Map) (o : Offices) (q k : ℕ) (answer working : List ℕ) → invalid m o q k answer working ≡ 0 → Allowed m o q k answer working
+pub valid : (m : Map) (o : Offices) (q k d : ℕ) (answer working : List ℕ) → invalid m o q k d answer working ≡ 0 → Allowed m o q k d answer working
 unfolding invalid
-valid m o q k answer working h =
-    let p : Bool = ltb q (m .places) in
+valid m o q k d answer working h =
+    let pd : Bool = both (ltb q (m .places)) (isDirection d) in
     let a : Bool = leb 1 k in
     let b : Bool = leb k (o .count) in
-    let c : Bool = leb (lineWords * k) (length answer) in
-    let d : Bool = leb (slotWords * o .count) (length working) in
-    let h′ : orElse (due (both a b) 8) (due (both c d) 9) ≡ 0 = or-right (due p 7) _ h in
+    let e : Bool = leb (lineWords * k) (length answer) in
+    let f : Bool = leb (slotWords * o .count) (length working) in
+    let h′ : orElse (due (both a b) 8) (due (both e f) 9) ≡ 0 = or-right (due pd 7) _ h in
     let ab : both a b ≡ true = due-true (both a b) 8 (omega arith) (or-left (due (both a b) 8) _ h′) in
-    let cd : both c d ≡ true = due-true (both c d) 9 (omega arith) (or-right (due (both a b) 8) _ h′) in
+    let ef : both e f ≡ true = due-true (both e f) 9 (omega arith) (or-right (due (both a b) 8) _ h′) in
+    let both-hold : pd ≡ true = due-true pd 7 (omega arith) (or-left (due pd 7) _ h) in
     record {
-      place = ltb-true _ _ (due-true p 7 (omega arith) (or-left (due p 7) _ h));
+      place = ltb-true _ _ (both-left (ltb q (m .places)) (isDirection d) both-hold);
+      direction = direction-most d (both-right (ltb q (m .places)) (isDirection d) both-hold);
       one = leb-true _ _ (both-left a b ab);
       enough = leb-true _ _ (both-right a b ab);
-      answers = leb-true _ _ (both-left c d cd);
-      works = leb-true _ _ (both-right c d cd);
+      answers = leb-true _ _ (both-left e f ef);
+      works = leb-true _ _ (both-right e f ef);
     }
 
-invalid-most : (m : Map) (o : Offices) (q k : ℕ) (answer working : List ℕ) → invalid m o q k answer working ≤ 9
+invalid-most : (m : Map) (o : Offices) (q k d : ℕ) (answer working : List ℕ) → invalid m o q k d answer working ≤ 9
 unfolding invalid
-invalid-most m o q k answer working =
+invalid-most m o q k d answer working =
     or-most (due p 7) _ 9 (due-most p 7 9 (omega arith))
     (or-most (due ab 8) (due cd 9) 9 (due-most ab 8 9 (omega arith)) (due-most cd 9 9 (omega arith)))
   where
     p : Bool
-    p = ltb q (m .places)
+    p = both (ltb q (m .places)) (isDirection d)
 
     ab : Bool
     ab = both (leb 1 k) (leb k (o .count))
@@ -74,27 +78,34 @@ invalid-most m o q k answer working =
     cd = both (leb (lineWords * k) (length answer)) (leb (slotWords * o .count) (length working))
 
 -- over a map that is laid out and the offices on it
-module _ (laid : ℕ) (m : Map) (o : Offices) (q k : ℕ) (answer working : List ℕ) where
+module _ (laid : ℕ) (m : Map) (o : Offices) (q k d : ℕ) (answer working : List ℕ) where
   abbrev x : Quest
-  x = outward o q
+  x = directed o q d
 
-  asked : officesHold m o ≡ true → ValidOn m o q k answer working → Asked m x k
+  asked : officesHold m o ≡ true → ValidOn m o q k d answer working → Asked m x k
   asked h g =
-      let X : Allowed m o q k answer working = valid m o q k answer working g in
-      record { one = X .one; enough = X .enough; stands = offices-stand m o h; leaves = λ i p. X .place; ends = offices-stand m o h }
+      let X : Allowed m o q k d answer working = valid m o q k d answer working g in
+      let stands : (i : ℕ) → i < o .count → o .stand i < m .places = offices-stand m o h in
+      record {
+        one = X .one;
+        enough = X .enough;
+        stands = stands;
+        leaves = λ i p. by-within d q (o .stand i) (X .place) (stands i p);
+        ends = λ i p. by-within d (o .stand i) q (stands i p) (X .place);
+      }
 
   ended-is : (st : State) → listing m x k ≡ served st → endedOn m x k ≡ st
   unfolding endedOn
   ended-is st e = ap endOf e
 
   -- on an accepted map every valid question is answered
-  pub on-answered : LaidOut m → officesHold m o ≡ true → AcceptedOn laid m → ValidOn m o q k answer working → AnsweredOn m x k answer (replyOn laid m o q k answer working)
+  pub on-answered : LaidOut m → officesHold m o ≡ true → AcceptedOn laid m → ValidOn m o q k d answer working → AnsweredOn m x k answer (replyOn laid m o q k d answer working)
   unfolding replyOn
   on-answered L stand A g =
       let Q : Asked m x k = asked stand g in
       let (st, e, near) = answered L (A .truth) Q in
-      let none : orElse laid (invalid m o q k answer working) ≡ 0 = or-zero laid _ (A .laid) g in
-      let same : replyOn laid m o q k answer working ≡ walkOut (o .count) k answer working (served st) = ap (replyBy m x k answer working) none ∙ ap (walkOut (o .count) k answer working) e in
+      let none : orElse laid (invalid m o q k d answer working) ≡ 0 = or-zero laid _ (A .laid) g in
+      let same : replyOn laid m o q k d answer working ≡ walkOut (o .count) k answer working (served st) = ap (replyBy m x k answer working) none ∙ ap (walkOut (o .count) k answer working) e in
       let end : endedOn m x k ≡ st = ended-is st e in
       rw same (record {
         nearest = record { number = refl; count = refl; list = rw end refl; seen = seen L (A .truth) Q; nearest = λ s. rw end (near s .0) };
@@ -102,19 +113,19 @@ module _ (laid : ℕ) (m : Map) (o : Offices) (q k : ℕ) (answer working : List
       })
 
   -- on an accepted map the walk's refusals, 16 to 18, are never given
-  pub on-early : LaidOut m → officesHold m o ≡ true → AcceptedOn laid m → replyOn laid m o q k answer working .number ≤ 9
+  pub on-early : LaidOut m → officesHold m o ≡ true → AcceptedOn laid m → replyOn laid m o q k d answer working .number ≤ 9
   unfolding replyOn
-  on-early L stand A = go (invalid m o q k answer working) refl
+  on-early L stand A = go (invalid m o q k d answer working) refl
     where
-      go : (n : ℕ) → invalid m o q k answer working ≡ n → replyOn laid m o q k answer working .number ≤ 9
+      go : (n : ℕ) → invalid m o q k d answer working ≡ n → replyOn laid m o q k d answer working .number ≤ 9
       go zero e = omega (arith, on-answered L stand A e .nearest .number)
-      go (suc n) e = rw (A .laid, e) (omega (arith, invalid-most m o q k answer working))
+      go (suc n) e = rw (A .laid, e) (omega (arith, invalid-most m o q k d answer working))
 
   -- of any map: a refused question returns its number with both counts 0
-  pub refused-counts : (replyOn laid m o q k answer working .number ≡ 0 → ⊥)
-      → (replyOn laid m o q k answer working .count ≡ 0) × (replyOn laid m o q k answer working .refinements ≡ 0)
+  pub refused-counts : (replyOn laid m o q k d answer working .number ≡ 0 → ⊥)
+      → (replyOn laid m o q k d answer working .count ≡ 0) × (replyOn laid m o q k d answer working .refinements ≡ 0)
   unfolding replyOn
-  refused-counts = go (orElse laid (invalid m o q k answer working))
+  refused-counts = go (orElse laid (invalid m o q k d answer working))
     where
       walk : (r : Served State) → (walkOut (o .count) k answer working r .number ≡ 0 → ⊥)
           → (walkOut (o .count) k answer working r .count ≡ 0) × (walkOut (o .count) k answer working r .refinements ≡ 0)
@@ -126,20 +137,20 @@ module _ (laid : ℕ) (m : Map) (o : Offices) (q k : ℕ) (answer working : List
       go zero h = walk (listing m x k) h
 
 -- the same of an ordinary sheet
-module _ (s : List ℕ) (q k : ℕ) (answer working : List ℕ) (bytes : Bytes s) (A : Accepted s) where
-  pub reply-answered : Valid s q k answer working → Answered s q k answer (reply s q k answer working)
+module _ (s : List ℕ) (q k d : ℕ) (answer working : List ℕ) (bytes : Bytes s) (A : Accepted s) where
+  pub reply-answered : Valid s q k d answer working → Answered s q k d answer (reply s q k d answer working)
   unfolding reply
-  reply-answered = on-answered (layout s) (mapOf s) (officesOf s) q k answer working (laid-out s bytes (A .laid)) (passed s (A .laid) .offices) A
+  reply-answered = on-answered (layout s) (mapOf s) (officesOf s) q k d answer working (laid-out s bytes (A .laid)) (passed s (A .laid) .offices) A
 
-  pub reply-early : reply s q k answer working .number ≤ 9
+  pub reply-early : reply s q k d answer working .number ≤ 9
   unfolding reply
-  reply-early = on-early (layout s) (mapOf s) (officesOf s) q k answer working (laid-out s bytes (A .laid)) (passed s (A .laid) .offices) A
+  reply-early = on-early (layout s) (mapOf s) (officesOf s) q k d answer working (laid-out s bytes (A .laid)) (passed s (A .laid) .offices) A
 
 -- of any sheet that the layout rules pass: every trail, line and total of a valid question is within its bounds
-pub sheet-listed : (s : List ℕ) (q k : ℕ) (answer working : List ℕ) → Bytes s → layout s ≡ 0 → Valid s q k answer working
-    → On Any (ListedWithin (mapOf s) (questOf s q)) (listing (mapOf s) (questOf s q) k)
-sheet-listed s q k answer working bytes h g =
-    listing-within (laid-out s bytes h) (asked (layout s) (mapOf s) (officesOf s) q k answer working (passed s h .offices) g)
+pub sheet-listed : (s : List ℕ) (q k d : ℕ) (answer working : List ℕ) → Bytes s → layout s ≡ 0 → Valid s q k d answer working
+    → On Any (ListedWithin (mapOf s) (questOf s q d)) (listing (mapOf s) (questOf s q d) k)
+sheet-listed s q k d answer working bytes h g =
+    listing-within (laid-out s bytes h) (asked (layout s) (mapOf s) (officesOf s) q k d answer working (passed s h .offices) g)
 
 -- the list takes five words for each line, and they are the line's
 pub lines-size : (ls : List Line) → length (linesOut ls) ≡ lineWords * length ls
@@ -196,31 +207,31 @@ module _ {m : Map} (x : Quest) (L : LaidOut m) (few : x .count ≤ mostOffices) 
   }
 
 -- of any sheet: what a question writes where it is not refused
-pub reply-below : (s : List ℕ) (q k : ℕ) (answer working : List ℕ) → Bytes s → reply s q k answer working .number ≡ 0 → WordsBelow k (reply s q k answer working)
+pub reply-below : (s : List ℕ) (q k d : ℕ) (answer working : List ℕ) → Bytes s → reply s q k d answer working .number ≡ 0 → WordsBelow k (reply s q k d answer working)
 unfolding reply replyOn
-reply-below s q k answer working bytes = go (orElse (layout s) (invalid (mapOf s) (officesOf s) q k answer working)) refl
+reply-below s q k d answer working bytes = go (orElse (layout s) (invalid (mapOf s) (officesOf s) q k d answer working)) refl
   where
     x : Quest
-    x = questOf s q
+    x = questOf s q d
 
-    go : (n : ℕ) → orElse (layout s) (invalid (mapOf s) (officesOf s) q k answer working) ≡ n
+    go : (n : ℕ) → orElse (layout s) (invalid (mapOf s) (officesOf s) q k d answer working) ≡ n
         → replyBy (mapOf s) x k answer working n .number ≡ 0 → WordsBelow k (replyBy (mapOf s) x k answer working n)
     go (suc n) e h = absurd (omega arith)
     go zero e h =
         let laid : layout s ≡ 0 = or-left (layout s) _ e in
-        let fine : Valid s q k answer working = or-right (layout s) _ e in
-        let most : k ≤ officesOf s .count = valid (mapOf s) (officesOf s) q k answer working fine .enough in
+        let fine : Valid s q k d answer working = or-right (layout s) _ e in
+        let most : k ≤ officesOf s .count = valid (mapOf s) (officesOf s) q k d answer working fine .enough in
         walk-below x (laid-out s bytes laid) (offices-few s laid) k most answer working (listing (mapOf s) x k) (listing-ends (mapOf s) x k most)
-        (sheet-listed s q k answer working bytes laid fine) h
+        (sheet-listed s q k d answer working bytes laid fine) h
 
 -- how many words a reply leaves: as many as were lent
 pub record Kept (a w : List ℕ) (r : Reply) : Type 0 where
   pub answer : length (r .answer) ≡ length a
   pub working : length (r .working) ≡ length w
 
-pub reply-kept : (s : List ℕ) (q k : ℕ) (answer working : List ℕ) → Kept answer working (reply s q k answer working)
+pub reply-kept : (s : List ℕ) (q k d : ℕ) (answer working : List ℕ) → Kept answer working (reply s q k d answer working)
 unfolding reply replyOn
-reply-kept s q k answer working = go (orElse (layout s) (invalid m o q k answer working)) refl
+reply-kept s q k d answer working = go (orElse (layout s) (invalid m o q k d answer working)) refl
   where
     m : Map
     m = mapOf s
@@ -228,15 +239,15 @@ reply-kept s q k answer working = go (orElse (layout s) (invalid m o q k answer 
     o : Offices
     o = officesOf s
 
-    walk : Allowed m o q k answer working → (r : Served State) → On Walk (Ended (m .places) (o .count) k (λ st. Unit {0})) r → Kept answer working (walkOut (o .count) k answer working r)
+    walk : Allowed m o q k d answer working → (r : Served State) → On Walk (Ended (m .places) (o .count) k (λ st. Unit {0})) r → Kept answer working (walkOut (o .count) k answer working r)
     walk X (refused n) h = record { answer = cleared-size (lineWords * k) answer (X .answers); working = cleared-size (slotWords * o .count) working (X .works) }
     walk X (served st) E = record {
       answer = omega (arith, E .count, X .answers, lines-size (st .lines), length-append (linesOut (st .lines)) (drop (lineWords * k) answer), length-drop (lineWords * k) answer);
       working = cleared-size (slotWords * o .count) working (X .works);
     }
 
-    go : (n : ℕ) → orElse (layout s) (invalid m o q k answer working) ≡ n → Kept answer working (replyBy m (outward o q) k answer working n)
+    go : (n : ℕ) → orElse (layout s) (invalid m o q k d answer working) ≡ n → Kept answer working (replyBy m (directed o q d) k answer working n)
     go (suc n) e = record { answer = refl; working = refl }
     go zero e =
-        let X : Allowed m o q k answer working = valid m o q k answer working (or-right (layout s) _ e) in
-        walk X (listing m (outward o q) k) (listing-ends m (outward o q) k (X .enough))
+        let X : Allowed m o q k d answer working = valid m o q k d answer working (or-right (layout s) _ e) in
+        walk X (listing m (directed o q d) k) (listing-ends m (directed o q d) k (X .enough))

@@ -7,8 +7,9 @@ use mathlib.Core.List.{List, [], _∷_, _++_}
 use lib.Dec.{leb}
 use lib.ListN.{length, drop, replicate, length-append, length-drop, List·getD-append}
 use borrow.Author.Tests.{le-leb}
-use Rattle.paper.specs.Sizes.{longBytes}
+use Rattle.paper.specs.Sizes.{longBytes, outwardly, inwardly}
 use Rattle.paper.specs.Test.{both}
+use Rattle.paper.specs.Quest.{isDirection}
 use Rattle.paper.specs.Sheet.{mapOf, officesOf, word}
 use Rattle.paper.proofs.LaidOut.{LaidOut}
 use Rattle.paper.specs.Verdict.{Tabled, Distances, Checked, judged, Accepted}
@@ -50,21 +51,34 @@ sheet-checked before h = rw table-verdict at (judged table sheet-laid h distance
       rest = untouched-drop 16 before (roads ++ drop 16 before) refl;
     }
 
--- a question on it is answered, whatever slices it is lent
-pub sheet-answered : (answer working : List ℕ) → 10 ≤ length answer → 18 ≤ length working → Answered sheet 2 2 answer (reply sheet 2 2 answer working)
+-- a question on it is answered in either direction, whatever slices it is lent
+pub sheet-answered : (d : ℕ) → isDirection d ≡ true → (answer working : List ℕ) → 10 ≤ length answer → 18 ≤ length working
+    → Answered sheet 2 2 d answer (reply sheet 2 2 d answer working)
 unfolding mapOf officesOf sheet word invalid
-sheet-answered answer working h g =
-    reply-answered sheet 2 2 answer working sheet-bytes accepted
-    (due-zero (both (leb 10 (length answer)) (leb 18 (length working))) 9 (both-true (leb 10 (length answer)) (leb 18 (length working)) (le-leb _ _ h) (le-leb _ _ g)))
+sheet-answered d e answer working h g =
+    reply-answered sheet 2 2 d answer working sheet-bytes accepted
+    (rw e (due-zero (both (leb 10 (length answer)) (leb 18 (length working))) 9 (both-true (leb 10 (length answer)) (leb 18 (length working)) (le-leb _ _ h) (le-leb _ _ g))))
 
--- the same question through C, with slices that are just long enough: it is valid, and this stands in the answer and in the counts
-abbrev hostMarked : HostReply
-hostMarked = hostReply sheet 2 2 (replicate 80 0) (replicate 144 0) (replicate 16 0)
+-- the same question through C, outward and inward, with slices that are just long enough: it is valid, and this stands in the answer and in the counts
+abbrev hostMarked : ℕ → HostReply
+hostMarked d = hostReply sheet 2 2 d (replicate 80 0) (replicate 144 0) (replicate 16 0)
 
-pub host-marked-valid : HostValid sheet 2 2 (replicate 80 0) (replicate 144 0) (replicate 16 0)
+pub host-marked-valid : HostValid sheet 2 2 outwardly (replicate 80 0) (replicate 144 0) (replicate 16 0)
 unfolding hostInvalid invalid mapOf officesOf sheet word wordsOf
 host-marked-valid = refl
 
-pub host-marked : (hostMarked .number ≡ 0) × (hostMarked .answer ≡ asBytes longBytes (2 ∷ 5 ∷ 5 ∷ 1 ∷ 102 ∷ 0 ∷ 11 ∷ 11 ∷ 2 ∷ 101 ∷ [])) × (hostMarked .counts ≡ asBytes longBytes (2 ∷ 5 ∷ []))
+pub host-marked : (hostMarked outwardly .number ≡ 0)
+    × (hostMarked outwardly .answer ≡ asBytes longBytes (2 ∷ 5 ∷ 5 ∷ 1 ∷ 102 ∷ 0 ∷ 11 ∷ 11 ∷ 2 ∷ 101 ∷ []))
+    × (hostMarked outwardly .counts ≡ asBytes longBytes (2 ∷ 5 ∷ []))
 unfolding hostReply sheet word wordsOf asBytes listing linesOut
 host-marked = (refl, refl, refl)
+
+pub host-inward-valid : HostValid sheet 2 2 inwardly (replicate 80 0) (replicate 144 0) (replicate 16 0)
+unfolding hostInvalid invalid mapOf officesOf sheet word wordsOf
+host-inward-valid = refl
+
+pub host-inward : (hostMarked inwardly .number ≡ 0)
+    × (hostMarked inwardly .answer ≡ asBytes longBytes (2 ∷ 5 ∷ 5 ∷ 0 ∷ 102 ∷ 0 ∷ 11 ∷ 11 ∷ 0 ∷ 101 ∷ []))
+    × (hostMarked inwardly .counts ≡ asBytes longBytes (2 ∷ 0 ∷ []))
+unfolding hostReply sheet word wordsOf asBytes listing linesOut
+host-inward = (refl, refl, refl)

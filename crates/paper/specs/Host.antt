@@ -8,7 +8,7 @@ use lib.ListN.{length, drop}
 use Rattle.paper.specs.Sizes.{wordBytes, longBytes, countsBytes}
 use Rattle.paper.specs.Test.{due, orElse}
 use Rattle.paper.specs.Map.{Map, Offices}
-use Rattle.paper.specs.Quest.{outward}
+use Rattle.paper.specs.Quest.{directed}
 use Rattle.paper.specs.Sheet.{mapOf, officesOf}
 use Rattle.paper.specs.Layout.{layout}
 use Rattle.paper.specs.Verdict.{CheckedOn}
@@ -46,19 +46,19 @@ inBytes answer working counts r = record {
 }
 
 -- 0, or the first of 7, 8 and 9 that is due; 9 also where the counts have no room
-unfoldable pub hostInvalid : Map → Offices → ℕ → ℕ → List ℕ → List ℕ → List ℕ → ℕ
+unfoldable pub hostInvalid : Map → Offices → ℕ → ℕ → ℕ → List ℕ → List ℕ → List ℕ → ℕ
 unfolding invalid
-hostInvalid m o q k answer working counts = orElse (invalid m o q k (longsHeld answer) (longsHeld working)) (due (leb countsBytes (length counts)) 9)
+hostInvalid m o q k d answer working counts = orElse (invalid m o q k d (longsHeld answer) (longsHeld working)) (due (leb countsBytes (length counts)) 9)
 
--- the reply to the question q, k over the number that the layout gives, the map and the offices, with the slices as they were lent
-unfoldable pub hostReplyOn : ℕ → Map → Offices → ℕ → ℕ → List ℕ → List ℕ → List ℕ → HostReply
+-- the reply to the question q, k in the direction d over the number that the layout gives, the map and the offices, with the slices as they were lent
+unfoldable pub hostReplyOn : ℕ → Map → Offices → ℕ → ℕ → ℕ → List ℕ → List ℕ → List ℕ → HostReply
 unfolding hostInvalid counted
-hostReplyOn laid m o q k answer working counts =
-    inBytes answer working counts (replyBy m (outward o q) k (longsHeld answer) (longsHeld working) (orElse laid (hostInvalid m o q k answer working counts)))
+hostReplyOn laid m o q k d answer working counts =
+    inBytes answer working counts (replyBy m (directed o q d) k (longsHeld answer) (longsHeld working) (orElse laid (hostInvalid m o q k d answer working counts)))
 
 -- a question is valid when none of 7, 8 and 9 is due
-abbrev pub HostValidOn : Map → Offices → ℕ → ℕ → List ℕ → List ℕ → List ℕ → Type 0
-HostValidOn m o q k answer working counts = hostInvalid m o q k answer working counts ≡ 0
+abbrev pub HostValidOn : Map → Offices → ℕ → ℕ → ℕ → List ℕ → List ℕ → List ℕ → Type 0
+HostValidOn m o q k d answer working counts = hostInvalid m o q k d answer working counts ≡ 0
 
 -- the reply that a host reads in its slices
 abbrev pub readBack : HostReply → Reply
@@ -74,9 +74,9 @@ readBack h = record {
 abbrev pub HostChecked : List ℕ → List ℕ → ℕ → List ℕ → Type 0
 HostChecked s before = HostCheckedOn (layout s) (mapOf s) before
 
-unfoldable pub hostReply : List ℕ → ℕ → ℕ → List ℕ → List ℕ → List ℕ → HostReply
+unfoldable pub hostReply : List ℕ → ℕ → ℕ → ℕ → List ℕ → List ℕ → List ℕ → HostReply
 unfolding hostReplyOn layout mapOf officesOf
-hostReply s q k answer working counts = hostReplyOn (layout s) (mapOf s) (officesOf s) q k answer working counts
+hostReply s q k d answer working counts = hostReplyOn (layout s) (mapOf s) (officesOf s) q k d answer working counts
 
-abbrev pub HostValid : List ℕ → ℕ → ℕ → List ℕ → List ℕ → List ℕ → Type 0
+abbrev pub HostValid : List ℕ → ℕ → ℕ → ℕ → List ℕ → List ℕ → List ℕ → Type 0
 HostValid s = HostValidOn (mapOf s) (officesOf s)

@@ -4,7 +4,7 @@ use mathlib.Core.Path.{_≡_}
 use mathlib.Core.List.{List, [], _∷_}
 use Rattle.paper.specs.Served.{Served, served, andThen}
 use Rattle.paper.specs.Map.{Map, Offices}
-use Rattle.paper.specs.Quest.{outward}
+use Rattle.paper.specs.Quest.{outward, inward}
 use Rattle.paper.specs.Sheet.{mapOf, officesOf}
 use Rattle.paper.specs.Cell.{cell}
 use Rattle.paper.specs.Crow.{crow}
@@ -35,10 +35,10 @@ unfoldable pub sheet : List ℕ
 unfolding bytes words
 sheet = bytes words
 
--- the program's input: q and k, then the sheet
-unfoldable pub input : ℕ → ℕ → List ℕ
+-- the program's input: q, k and the direction, then the sheet
+unfoldable pub input : ℕ → ℕ → ℕ → List ℕ
 unfolding bytes words
-input q k = bytes (q ∷ k ∷ words)
+input q k d = bytes (q ∷ k ∷ d ∷ words)
 
 abbrev pub map : Map
 map = mapOf sheet
@@ -73,3 +73,9 @@ pub record MarkedTable : Type 0 where
   pub p8 : andThen (start map 2 (offices .stand 1)) (refine map (offices .stand 1)) ≡ served (record { via = 1; walked = 5; low = 9; high = 20; stages = 1 })
   pub p9 : outcome (listing map (outward offices 2) 1) ≡ served (record { total = 1; lines = line 2 5 5 1 102 ∷ [] })
   pub p10 : outcome (listing map (outward offices 2) 2) ≡ served (record { total = 5; lines = line 2 5 5 1 102 ∷ line 0 11 11 2 101 ∷ [] })
+
+-- inward (document 02, item 4): road distances to place 2, first intervals, and the list, unrefined
+pub record MarkedInward : Type 0 where
+  pub roads : IsD map (offices .stand 0) 2 11 × IsD map (offices .stand 1) 2 20 × IsD map (offices .stand 2) 2 5
+  pub firsts : (start map (offices .stand 0) 2 ≡ interval 0 11 11) × (start map (offices .stand 1) 2 ≡ interval 3 13 32) × (start map (offices .stand 2) 2 ≡ interval 1 5 5)
+  pub list : outcome (listing map (inward offices 2) 2) ≡ served (record { total = 0; lines = line 2 5 5 0 102 ∷ line 0 11 11 0 101 ∷ [] })

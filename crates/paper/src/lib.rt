@@ -46,3 +46,9 @@ pub struct Trail {
     pub high: Network,
     pub stages: usize,
 }
+
+// What a question asks of each office: the road between this place and the office's, in this direction.
+pub struct Quest {
+    pub place: usize,
+    pub direction: u32,
+}

@@ -49,8 +49,13 @@ pub const RATIO_UNIT: u64 = 4096;
 // Crow distances are in 64ths of a cell.
 pub const CROW_UNIT: u64 = 64;
 
-// The program's input: q and k before the sheet, in bytes; and its limits, bytes of the sheet, places, offices.
-pub const ASKED_BYTES: usize = 2 * WORD_BYTES;
+// The directions, as a question names them.
+pub const OUTWARD: u32 = 0;
+
+pub const INWARD: u32 = 1;
+
+// The program's input: q, k and the direction before the sheet, in bytes; and its limits, bytes of the sheet, places, offices.
+pub const ASKED_BYTES: usize = 3 * WORD_BYTES;
 
 pub const PROGRAM_BYTES: usize = 65_536;
 

@@ -1,12 +1,16 @@
 // Runs the cases of the paper that are run and not proved, and its printed cases, through the library, and prints a line for each.
+mod loops;
 mod marked;
 
+use crate::loops::LOOPS;
 use crate::marked::MARKED;
 use libc::STDOUT_FILENO;
 use nearest::question;
 use paper::sizes::BLOCK_WORDS;
+use paper::sizes::INWARD;
 use paper::sizes::LINE_WORDS;
 use paper::sizes::OFFICE_WORDS;
+use paper::sizes::OUTWARD;
 use paper::sizes::PLACE_WORDS;
 use paper::sizes::SLOT_WORDS;
 use paper::sizes::STAGE_WORDS;
@@ -151,10 +155,10 @@ fn list(answer: &[u64], words: usize) {
 }
 
 // A question's number, counts and list.
-fn asked(name: &[u8], sheet: &[u8], q: u32, k: u32) {
+fn asked(name: &[u8], sheet: &[u8], q: u32, k: u32, direction: u32) {
     let mut answer = [0u64; LINE_WORDS * OFFICES];
     let mut working = [0u64; SLOT_WORDS * OFFICES];
-    let reply = question(sheet, q, k, &mut answer, &mut working);
+    let reply = question(sheet, q, k, direction, &mut answer, &mut working);
     let count = reply.count;
     say(name, reply.number as u64);
     say(b", ", count as u64);
@@ -163,15 +167,44 @@ fn asked(name: &[u8], sheet: &[u8], q: u32, k: u32) {
     end_line();
 }
 
-fn questions() {
+fn outward_questions() {
     let marked = with_word(0, PLACES as u32);
-    asked(b"q = 2, k = 1: ", &marked, 2, 1);
-    asked(b"q = 2, k = 2: ", &marked, 2, 2);
-    asked(b"q = 2, k = 3: ", &marked, 2, 3);
-    asked(b"q = 2, k = 0: ", &marked, 2, 0);
-    asked(b"q = 2, k = 4: ", &marked, 2, 4);
-    asked(b"q = 4, k = 2: ", &marked, 4, 2);
-    asked(b"one office, q = 2, k = 1: ", &one_office(), 2, 1);
+    asked(b"q = 2, k = 1: ", &marked, 2, 1, OUTWARD);
+    asked(b"q = 2, k = 2: ", &marked, 2, 2, OUTWARD);
+    asked(b"q = 2, k = 3: ", &marked, 2, 3, OUTWARD);
+    asked(b"q = 2, k = 0: ", &marked, 2, 0, OUTWARD);
+    asked(b"q = 2, k = 4: ", &marked, 2, 4, OUTWARD);
+    asked(b"q = 4, k = 2: ", &marked, 4, 2, OUTWARD);
+    asked(b"one office, q = 2, k = 1: ", &one_office(), 2, 1, OUTWARD);
+}
+
+fn inward_questions() {
+    let marked = with_word(0, PLACES as u32);
+    asked(b"inward, q = 2, k = 1: ", &marked, 2, 1, INWARD);
+    asked(b"inward, q = 2, k = 2: ", &marked, 2, 2, INWARD);
+    asked(b"inward, q = 2, k = 3: ", &marked, 2, 3, INWARD);
+    asked(b"inward, q = 2, k = 4: ", &marked, 2, 4, INWARD);
+    asked(b"inward, q = 4, k = 2: ", &marked, 4, 2, INWARD);
+}
+
+fn neither_questions() {
+    let marked = with_word(0, PLACES as u32);
+    asked(b"direction 2, q = 2, k = 2: ", &marked, 2, 2, 2);
+    asked(b"direction 2, q = 2, k = 0: ", &marked, 2, 0, 2);
+}
+
+// On one-way loops the two directions differ: the nearest to send to is the farthest to hear from.
+fn loop_questions() {
+    let loops = bytes_of(LOOPS);
+    checked(b"one-way loops: check ", &loops);
+    asked(b"one-way loops, q = 0, k = 3: ", &loops, 0, 3, OUTWARD);
+    asked(
+        b"one-way loops, inward, q = 0, k = 3: ",
+        &loops,
+        0,
+        3,
+        INWARD,
+    );
 }
 
 fn layouts() {
@@ -211,7 +244,10 @@ fn checks() {
 }
 
 fn main() {
-    questions();
+    outward_questions();
+    inward_questions();
+    neither_questions();
+    loop_questions();
     layouts();
     checks();
 }

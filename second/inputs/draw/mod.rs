@@ -6,6 +6,8 @@ pub mod places;
 pub mod trees;
 
 use crate::inputs::rng::Rng;
+use crate::rules::asked::Asked;
+use crate::rules::limits::DIRECTIONS;
 use crate::rules::sheet::Sheet;
 use gazetteer::{any_numbers, numbered};
 use net::{stages, Lengths, Net, LENGTH_STYLES, NETS};
@@ -96,8 +98,17 @@ pub fn offices(rng: &mut Rng, places: usize, count: usize, spread: usize) -> Vec
     (0..count).map(|_| rng.pick(&towns)).collect()
 }
 
-/// A place and a number for a question: mostly valid, sometimes at or beyond an edge.
-pub fn ask(rng: &mut Rng, sheet: &Sheet) -> (u32, u32) {
+/// Directions that are neither: the first, bytes and bits beyond the lowest, all bits.
+pub const NO_DIRECTIONS: [u32; 5] = [2, 3, 256, 1 << 31, u32::MAX];
+
+/// The two directions about equally often, now and then neither. Nothing is taken from the sequence.
+pub fn any_direction(rng: &Rng) -> u32 {
+    let mut aside = rng.aside();
+    if aside.below(32) == 0 { aside.pick(&NO_DIRECTIONS) } else { aside.pick(&DIRECTIONS) }
+}
+
+/// A question: mostly valid, sometimes at or beyond an edge.
+pub fn ask(rng: &mut Rng, sheet: &Sheet) -> Asked {
     let (places, offices) = (sheet.places.len() as u32, sheet.offices.len() as u32);
     let edge = rng.below(32);
     let q = match rng.below(24) {
@@ -111,11 +122,12 @@ pub fn ask(rng: &mut Rng, sheet: &Sheet) -> (u32, u32) {
         5..=11 => rng.between(1, 3).min(offices),
         _ => rng.between(1, offices.max(1)),
     };
-    (q, k)
+    Asked { q, k, direction: any_direction(rng) }
 }
 
 /// A valid question, when the sheet has an office.
-pub fn ask_well(rng: &mut Rng, sheet: &Sheet) -> (u32, u32) {
+pub fn ask_well(rng: &mut Rng, sheet: &Sheet) -> Asked {
     let q = rng.below(sheet.places.len()) as u32;
-    (q, rng.between(1, sheet.offices.len().max(1) as u32))
+    let k = rng.between(1, sheet.offices.len().max(1) as u32);
+    Asked { q, k, direction: rng.aside().pick(&DIRECTIONS) }
 }

@@ -1,6 +1,7 @@
 //! What a case of the longest walks is: a map, and what is due on it by the paper.
 
 use crate::inputs::longest::maps::gazetteer;
+use crate::rules::asked::Asked;
 use crate::rules::limits::ANSWER_WORDS;
 use crate::rules::refusal::Number;
 use crate::rules::sheet::Sheet;
@@ -15,10 +16,10 @@ pub struct Case {
 }
 
 /// A valid question over these offices.
+#[derive(Clone)]
 pub struct Question {
     pub offices: Vec<u32>,
-    pub q: u32,
-    pub k: u32,
+    pub asked: Asked,
     pub due: Due,
 }
 
@@ -34,15 +35,22 @@ impl Case {
     }
 }
 
+impl Question {
+    /// The same the other way: from the offices to q.
+    pub fn inward(self) -> Question {
+        Question { asked: Asked::inward(self.asked.q, self.asked.k), ..self }
+    }
+}
+
 /// A question for as many offices as this list has; what each place's gazetteer number is, the maps say.
 pub fn listed(offices: &[u32], q: u32, list: &[[u64; 4]], total: u64) -> Question {
     let whole = |&[number, low, high, stages]: &[u64; 4]| {
         [number, low, high, stages, u64::from(gazetteer(offices[number as usize]))]
     };
     let list: Vec<Record> = list.iter().map(whole).collect();
-    Question { offices: offices.to_vec(), q, k: list.len() as u32, due: Ok((list, total)) }
+    Question { offices: offices.to_vec(), asked: Asked::outward(q, list.len() as u32), due: Ok((list, total)) }
 }
 
 pub fn refused(offices: &[u32], (q, k): (u32, u32), number: Number) -> Question {
-    Question { offices: offices.to_vec(), q, k, due: Err(number) }
+    Question { offices: offices.to_vec(), asked: Asked::outward(q, k), due: Err(number) }
 }

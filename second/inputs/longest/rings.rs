@@ -18,8 +18,20 @@ pub fn all(rng: &mut Rng) -> Vec<Case> {
     ]
 }
 
-fn truth(name: &'static str, map: Sheet, questions: Vec<Question>) -> Case {
+fn truth(name: &'static str, map: Sheet, mut questions: Vec<Question>) -> Case {
+    let last = map.places.len() as u32 - 1;
+    let inward: Vec<Question> = questions.iter().map(|question| mirrored(question, last)).collect();
+    questions.extend(inward);
     Case { name, map, check: ACCEPTED, questions }
+}
+
+/// Inward, with the last place less u for each place u: from an office to q are as many stages as were from q to the
+/// office. The first and the last place are as far from each other as before, and so are any two along the diagonal.
+fn mirrored(outward: &Question, last: u32) -> Question {
+    let offices: Vec<u32> = outward.offices.iter().map(|place| last - place).collect();
+    let (list, total) = outward.due.as_ref().expect("a ring tells the truth");
+    let list: Vec<[u64; 4]> = list.iter().map(|&[number, low, high, stages, _]| [number, low, high, stages]).collect();
+    listed(&offices, last - outward.asked.q, &list, *total).inward()
 }
 
 /// The longest diagonal at once; and with a second office, the longest road.

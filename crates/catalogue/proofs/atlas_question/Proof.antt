@@ -101,8 +101,8 @@ returns c =
     let l = laid d in
     let s = begin l in
     let (e, n) = out (d .before) in
-    let rules = laid-host _ (s .args .q) (s .args .k) _ _ _ _ e (offices d) _ (x .ask .ensures) in
-    let (first, near, thrift) = promised _ (s .args .q) (s .args .k) _ _ (s .args .counts .now) (bytes l) (answers l) (works l) _ rules in
+    let rules = laid-host _ (s .args .q) (s .args .k) (s .args .direction) _ _ _ _ e (offices d) _ (x .ask .ensures) in
+    let (first, near, thrift) = promised _ (s .args .q) (s .args .k) (s .args .direction) _ _ (s .args .counts .now) (bytes l) (answers l) (works l) _ rules in
     (first, (near, thrift))
 
 same-length-4 : tie.Need-same-length-4
@@ -115,8 +115,8 @@ returns-2 c =
     let l = t .before .before .before in
     let s = begin l in
     let refused = sym (t .before .laid2 .given .1) ∙ l .layout .ensures in
-    let rules = refused-host _ (s .args .q) (s .args .k) _ _ _ _ _ (answers l) (works l) refused (p .put-counts .ensures) in
-    let (first, near, thrift) = promised _ (s .args .q) (s .args .k) _ _ (s .args .counts .now) (bytes l) (answers l) (works l) _ rules in
+    let rules = refused-host _ (s .args .q) (s .args .k) (s .args .direction) _ _ _ _ _ (answers l) (works l) refused (p .put-counts .ensures) in
+    let (first, near, thrift) = promised _ (s .args .q) (s .args .k) (s .args .direction) _ _ (s .args .counts .now) (bytes l) (answers l) (works l) _ rules in
     (first, (near, thrift))
 
 pub atlas-question-spec : {M : Type 1} → statement M

@@ -6,7 +6,7 @@ use lib.ListN.{length}
 use borrow.Author.Needs.{needs}
 use Rattle.paper.specs.Sizes.{slotWords}
 use Rattle.paper.specs.Sheet.{mapOf, officesIn}
-use Rattle.paper.specs.Quest.{outward}
+use Rattle.paper.specs.Quest.{directed}
 use Rattle.paper.specs.Listing.{listing}
 use Rattle.paper.specs.Reply.{invalid}
 use Rattle.paper.proofs.Reply.{Allowed}
@@ -41,22 +41,22 @@ offices s = roll-count (s .pre .1)
 
 -- what the test of 7, 8 and 9 comes to
 tested : (c : tie.After-invalid) → let s = begin c in
-    c .invalid .result ≡ invalid (mapOf (s .args .ground .now)) (officesIn (s .args .list .now)) (s .args .q) (s .args .k) (s .args .answer .now) (s .args .working .now)
+    c .invalid .result ≡ invalid (mapOf (s .args .ground .now)) (officesIn (s .args .list .now)) (s .args .q) (s .args .k) (s .args .direction) (s .args .answer .now) (s .args .working .now)
 tested c = let s = begin c in c .invalid .ensures _ _ _ _ (sym (places s)) (sym (offices s)) refl refl
 
 -- a question that is valid: what the walk needs
-allowed : (c : tie.Else1) → let s = begin (c .before) in Allowed (mapOf (s .args .ground .now)) (officesIn (s .args .list .now)) (s .args .q) (s .args .k) (s .args .answer .now) (s .args .working .now)
-allowed c = let s = begin (c .before) in ask-allowed _ _ _ (offices s) _ _ _ _ _ (tested (c .before)) (c .if1 .left)
+allowed : (c : tie.Else1) → let s = begin (c .before) in Allowed (mapOf (s .args .ground .now)) (officesIn (s .args .list .now)) (s .args .q) (s .args .k) (s .args .direction) (s .args .answer .now) (s .args .working .now)
+allowed c = let s = begin (c .before) in ask-allowed _ _ _ (offices s) _ _ _ _ _ _ (tested (c .before)) (c .if1 .left)
 
 works : (c : tie.Else1) → let s = begin (c .before) in slotWords * s .args .counts .offices ≤ length (s .args .working .now)
-works c = let s = begin (c .before) in ask-works (mapOf (s .args .ground .now)) (officesIn (s .args .list .now)) _ (offices s) _ _ _ _ _ (tested (c .before)) (c .if1 .left)
+works c = let s = begin (c .before) in ask-works (mapOf (s .args .ground .now)) (officesIn (s .args .list .now)) _ (offices s) _ _ _ _ _ _ (tested (c .before)) (c .if1 .left)
 
 -- how the walk ended
 ended : (c : tie.After-walk-mapped) → let s = begin (valid c .before) in (r : Walked) → c .walk-mapped .result ≡ r
-    → Came (s .args .k) (listing (mapOf (s .args .ground .now)) (outward (officesIn (s .args .list .now)) (s .args .q)) (s .args .k)) (s .args .answer .now) (c .walk-mapped .last .1 .1 .1 .1 .1 .0) r
+    → Came (s .args .k) (listing (mapOf (s .args .ground .now)) (directed (officesIn (s .args .list .now)) (s .args .q) (s .args .direction)) (s .args .k)) (s .args .answer .now) (c .walk-mapped .last .1 .1 .1 .1 .1 .0) r
 ended c r e =
     let s = begin (valid c .before) in
-    subst (Came (s .args .k) (listing (mapOf (s .args .ground .now)) (outward (officesIn (s .args .list .now)) (s .args .q)) (s .args .k)) (s .args .answer .now) (c .walk-mapped .last .1 .1 .1 .1 .1 .0)) e (c .walk-mapped .ensures .1)
+    subst (Came (s .args .k) (listing (mapOf (s .args .ground .now)) (directed (officesIn (s .args .list .now)) (s .args .q) (s .args .direction)) (s .args .k)) (s .args .answer .now) (c .walk-mapped .last .1 .1 .1 .1 .1 .0)) e (c .walk-mapped .ensures .1)
 
 invalid-requires : tie.Need-invalid-requires
 invalid-requires c κs = c .before .before .before .before .pre .1 .few
@@ -75,7 +75,7 @@ returns c =
     let v = c .before .before in
     let s = begin v in
     ap (λ (r : code.Reply). replied r (s .args .answer .now) (s .args .working .now)) (c .refused .ensures)
-    ∙ ask-invalid _ _ _ (offices s) _ _ _ _ _ (tested v) (c .before .if1 .taken)
+    ∙ ask-invalid _ _ _ (offices s) _ _ _ _ _ _ (tested v) (c .before .if1 .taken)
 
 walk-mapped-requires : tie.Need-walk-mapped-requires
 walk-mapped-requires c κs =
@@ -115,7 +115,7 @@ returns-2 c =
     let v = valid w in
     let s = begin (v .before) in
     let E = ended w _ (c .before .ended .given .1) in
-    ask-done _ _ _ (offices s) _ _ _ _ _ (tested (v .before)) (v .if1 .left) _ _ (w .walk-mapped .ensures .0) (k .clear .ensures) (E .0) _ _ (E .1) (E .2) (E .3)
+    ask-done _ _ _ (offices s) _ _ _ _ _ _ (tested (v .before)) (v .if1 .left) _ _ (w .walk-mapped .ensures .0) (k .clear .ensures) (E .0) _ _ (E .1) (E .2) (E .3)
 
 same-length-3 : tie.Need-same-length-3
 same-length-3 c = search needs
@@ -133,7 +133,7 @@ returns-3 c =
     let s = begin (v .before) in
     let E = ended w _ (t .before .ended2 .given .1) in
     ap (λ (r : code.Reply). replied r (a .clear2 .last .0) (k .clear .last .0)) (c .refused2 .ensures)
-    ∙ ask-refused _ _ _ (offices s) _ _ _ _ _ (tested (v .before)) (v .if1 .left) _ _ (w .walk-mapped .ensures .0) (k .clear .ensures) _ _ _ (E .0) (E .1) (a .clear2 .ensures)
+    ∙ ask-refused _ _ _ (offices s) _ _ _ _ _ _ (tested (v .before)) (v .if1 .left) _ _ (w .walk-mapped .ensures .0) (k .clear .ensures) _ _ _ (E .0) (E .1) (a .clear2 .ensures)
 
 pub ask-spec : {M : Type 1} → statement M
 ask-spec =

@@ -84,16 +84,16 @@ returns c =
     let d = lent x in
     let (e, n) = out (d .before) in
     let s = begin (laid d) in
-    let rules = x .ask .ensures ∙ laid-reply _ (s .args .q) (s .args .k) _ _ _ e (ap officesIn (list d) ∙ list-offices _ _ (sectioned _ _ e n)) in
-    (rules, (lists-nearest _ _ _ _ _ (bytes (laid d)) _ rules, refines-thriftily _ _ _ _ _ (bytes (laid d)) _ rules))
+    let rules = x .ask .ensures ∙ laid-reply _ (s .args .q) (s .args .k) (s .args .direction) _ _ _ e (ap officesIn (list d) ∙ list-offices _ _ (sectioned _ _ e n)) in
+    (rules, (lists-nearest _ _ _ _ _ _ (bytes (laid d)) _ rules, refines-thriftily _ _ _ _ _ _ (bytes (laid d)) _ rules))
 
 returns-2 : tie.Need-returns-2
 returns-2 c =
     let x = c .before .before .before .before in
     let s = begin x in
     let rules = ap (λ (r : code.Reply). replied r (s .args .answer .now) (s .args .working .now)) (c .refused .ensures)
-    ∙ laid-refused _ (s .args .q) (s .args .k) _ _ _ (sym (c .before .before .laid2 .given .1) ∙ x .layout .ensures) in
-    (rules, (lists-nearest _ _ _ _ _ (bytes x) _ rules, refines-thriftily _ _ _ _ _ (bytes x) _ rules))
+    ∙ laid-refused _ (s .args .q) (s .args .k) (s .args .direction) _ _ _ (sym (c .before .before .laid2 .given .1) ∙ x .layout .ensures) in
+    (rules, (lists-nearest _ _ _ _ _ _ (bytes x) _ rules, refines-thriftily _ _ _ _ _ _ (bytes x) _ rules))
 
 pub question-spec : {M : Type 1} → statement M
 question-spec =

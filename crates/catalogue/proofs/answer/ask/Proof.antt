@@ -4,7 +4,7 @@ use mathlib.Core.Path.{_≡_, sym, subst, _∙_}
 use borrow.Author.Needs.{needs}
 use Rattle.paper.specs.Layout.{Bytes}
 use Rattle.paper.specs.Sheet.{mapOf, officesIn}
-use Rattle.paper.specs.Quest.{outward}
+use Rattle.paper.specs.Quest.{directed}
 use Rattle.paper.specs.Listing.{listing}
 use Rattle.paper.specs.Host.{hostInvalid, HostValidOn}
 use Rattle.paper.proofs.Cleared.{cleared-same}
@@ -51,24 +51,24 @@ offices s = roll-count (s .pre .1)
 
 -- what the test of 7, 8 and 9 comes to
 tested : (c : tie.After-invalid) → let a = begin c .args in
-    c .invalid .result ≡ hostInvalid (mapOf (a .ground .now)) (officesIn (a .list .now)) (a .q) (a .k) (a .answer .now) (a .working .now) (a .counts .now)
+    c .invalid .result ≡ hostInvalid (mapOf (a .ground .now)) (officesIn (a .list .now)) (a .q) (a .k) (a .direction) (a .answer .now) (a .working .now) (a .counts .now)
 tested c = let s = begin c in c .invalid .ensures _ _ (sym (places s)) (sym (offices s))
 
 -- a question that is valid: what the walk needs
 valid : (c : tie.Else1) → let a = begin (c .before) .args in
-    HostValidOn (mapOf (a .ground .now)) (officesIn (a .list .now)) (a .q) (a .k) (a .answer .now) (a .working .now) (a .counts .now)
+    HostValidOn (mapOf (a .ground .now)) (officesIn (a .list .now)) (a .q) (a .k) (a .direction) (a .answer .now) (a .working .now) (a .counts .now)
 valid c = sym (tested (c .before)) ∙ c .if1 .left
 
 lent : (c : tie.Else1) → let i = c .before in let a = begin i .args in
-    Lent (mapOf (a .ground .now)) (officesIn (a .list .now)) (a .q) (a .k) (a .answer .now) (a .working .now) (a .counts .now) (answers i) (works i) (valid c)
-lent c = host-lent _ _ _ _ _ _ _ (answers (c .before)) (works (c .before)) (valid c)
+    Lent (mapOf (a .ground .now)) (officesIn (a .list .now)) (a .q) (a .k) (a .direction) (a .answer .now) (a .working .now) (a .counts .now) (answers i) (works i) (valid c)
+lent c = host-lent _ _ _ _ _ _ _ _ (answers (c .before)) (works (c .before)) (valid c)
 
 -- how the walk ended, by what the match sees
 ended : (c : tie.After-list-lines) (r : Walked) → c .list-lines .result ≡ r → let a = begin (listed c .before) .args in
-    CameOut (a .k) (listing (mapOf (a .ground .now)) (outward (officesIn (a .list .now)) (a .q)) (a .k)) (a .answer .now) (c .list-lines .last .1 .1 .1 .1 .1 .0) r
+    CameOut (a .k) (listing (mapOf (a .ground .now)) (directed (officesIn (a .list .now)) (a .q) (a .direction)) (a .k)) (a .answer .now) (c .list-lines .last .1 .1 .1 .1 .1 .0) r
 ended c r e =
     let a = begin (listed c .before) .args in
-    subst (CameOut (a .k) (listing (mapOf (a .ground .now)) (outward (officesIn (a .list .now)) (a .q)) (a .k)) (a .answer .now) (c .list-lines .last .1 .1 .1 .1 .1 .0)) e (c .list-lines .ensures)
+    subst (CameOut (a .k) (listing (mapOf (a .ground .now)) (directed (officesIn (a .list .now)) (a .q) (a .direction)) (a .k)) (a .answer .now) (c .list-lines .last .1 .1 .1 .1 .1 .0)) e (c .list-lines .ensures)
 
 invalid-requires : tie.Need-invalid-requires
 invalid-requires c κs = c .before .before .before .before .before .before .before .before .pre .1 .few
@@ -90,7 +90,7 @@ returns c =
     let p = c .before .before in
     let t = p .before .before in
     let i = t .before in
-    host-invalid _ _ _ _ _ _ _ (answers i) (works i) _ (tested i) (t .if1 .taken) _ (p .put-counts .ensures)
+    host-invalid _ _ _ _ _ _ _ _ (answers i) (works i) _ (tested i) (t .if1 .taken) _ (p .put-counts .ensures)
 
 list-lines-requires : tie.Need-list-lines-requires
 list-lines-requires c κs =
@@ -154,8 +154,8 @@ returns-2 c =
     let i = e .before in
     let s = begin i in
     let E = ended l _ (t .before .ended .given .1) in
-    let size = listing-count (mapOf (s .args .ground .now)) (outward (officesIn (s .args .list .now)) (s .args .q)) (s .args .k) (lent e .enough) (E .state) (E .ended) in
-    host-done _ _ _ _ _ _ _ (answers i) (works i) (valid e) _ (offices s) _ (d .clear .ensures) (E .state) _ _ _ (E .ended) (E .made) size (E .bytes) (p .put-counts2 .ensures)
+    let size = listing-count (mapOf (s .args .ground .now)) (directed (officesIn (s .args .list .now)) (s .args .q) (s .args .direction)) (s .args .k) (lent e .enough) (E .state) (E .ended) in
+    host-done _ _ _ _ _ _ _ _ (answers i) (works i) (valid e) _ (offices s) _ (d .clear .ensures) (E .state) _ _ _ (E .ended) (E .made) size (E .bytes) (p .put-counts2 .ensures)
 
 same-length-7 : tie.Need-same-length-7
 same-length-7 c = search needs
@@ -177,7 +177,7 @@ returns-3 c =
     let i = e .before in
     let s = begin i in
     let E = ended l _ (t .before .ended2 .given .1) in
-    host-refused _ _ _ _ _ _ _ (answers i) (works i) (valid e) _ (offices s) _ (d .clear .ensures) _ _ _ (E .0) (r .clear2 .ensures ∙ cleared-same _ _ _ (E .1 .long) (E .1 .rest)) (p .put-counts3 .ensures)
+    host-refused _ _ _ _ _ _ _ _ (answers i) (works i) (valid e) _ (offices s) _ (d .clear .ensures) _ _ _ (E .0) (r .clear2 .ensures ∙ cleared-same _ _ _ (E .1 .long) (E .1 .rest)) (p .put-counts3 .ensures)
 
 pub ask-spec : {M : Type 1} → statement M
 ask-spec =

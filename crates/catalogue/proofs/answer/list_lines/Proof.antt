@@ -5,10 +5,10 @@ use mathlib.Core.Path.{_≡_, sym, _∙_}
 use borrow.Author.Needs.{needs}
 use lib.ListN.{length, replicate, length-replicate}
 use Rattle.paper.specs.Sizes.{lineWords, slotWords, mostOffices}
-use Rattle.paper.specs.Sheet.{mapOf, officesIn}
-use Rattle.paper.specs.Quest.{outward}
+use Rattle.paper.specs.Sheet.{mapOf}
 use Rattle.paper.proofs.Fair.{listing-count}
 use Rattle.sheet.proofs.Grounds.{roll-count}
+use Rattle.nearest.specs.Question.{questOn}
 use Rattle.catalogue.proofs.Lined.{came-out}
 use Rattle.catalogue.proofs.answer.list_lines.Statement.{statement}
 use Rattle.catalogue.proofs.answer.list_lines.Tie as tie
@@ -64,7 +64,7 @@ returns c =
     let s = begin w in
     let p = s .pre .1 in
     came-out (s .args .k) _ (replicate linesMost 0) _ _ _ (omega (arith, lines-long w, p .3, p .0 .few)) (p .4)
-    (listing-count (mapOf (s .args .ground .now)) (outward (officesIn (s .args .list .now)) (s .args .q)) (s .args .k) (omega (arith, p .3, roll-count (p .0))))
+    (listing-count (mapOf (s .args .ground .now)) (questOn (s .args .list .now) (s .args .quest)) (s .args .k) (omega (arith, p .3, roll-count (p .0))))
     (l .put-longs .ensures) (w .walk-mapped .result) (w .walk-mapped .ensures .1)
 
 pub list-lines-spec : {M : Type 1} → statement M

@@ -3,21 +3,21 @@ use Prim.Native.Nat.{_-_, _*_, _≤_}
 use native.Mathlib.Omega.{arith}
 use borrow.Author.Needs.{needs}
 use Rattle.paper.specs.Sizes.{slotWords}
-use Rattle.paper.specs.Sheet.{mapOf, officesIn}
-use Rattle.paper.specs.Quest.{outward}
+use Rattle.paper.specs.Sheet.{mapOf}
 use Rattle.sheet.proofs.Grounds.{roll-count}
 use Rattle.nearest.specs.Working.{Beyond}
+use Rattle.nearest.specs.Question.{questOn}
 use Rattle.nearest.proofs.Take.{beyond-then, beyond-same}
 use Rattle.nearest.proofs.Begun.{Prefix, prefix-none, prefix-next, prefix-refused, built-beyond, started-all}
 use Rattle.nearest.proofs.walk.set_out_all.Statement.{statement}
 use Rattle.nearest.proofs.walk.set_out_all.Tie as tie
 
 abbrev Inv-loop : tie.InvT-loop
-Inv-loop ground counts list q working₀ n i₀ working i =
-    (i ≤ n) × Beyond (slotWords * counts .offices) working₀ working × Prefix (mapOf ground) (outward (officesIn list) q) i working
+Inv-loop ground counts list quest working₀ n i₀ working i =
+    (i ≤ n) × Beyond (slotWords * counts .offices) working₀ working × Prefix (mapOf ground) (questOn list quest) i working
 
 abbrev μ-loop : tie.MeasureT-loop
-μ-loop ground counts list q working₀ n i₀ working i = n - i
+μ-loop ground counts list quest working₀ n i₀ working i = n - i
 
 -- the places, each by the one before it
 abbrev begin : tie.At-loop Inv-loop μ-loop → tie.Start Inv-loop μ-loop

@@ -4,15 +4,17 @@ use Prim.Native.Nat.{ℕ}
 use native.Mathlib.Omega.{arith}
 use borrow.Author.Needs.{needs}
 use Rattle.paper.specs.Map.{Map}
-use Rattle.paper.specs.Sheet.{mapOf, officesIn}
-use Rattle.paper.specs.Quest.{Quest, outward}
+use Rattle.paper.specs.Sheet.{mapOf}
+use Rattle.paper.specs.Quest.{Quest}
 use Rattle.paper.specs.Listing.{starts}
 use Rattle.paper.proofs.Ground.{starts-same}
 use Rattle.sheet.specs.Ground.{Charted}
-use Rattle.sheet.proofs.Grounds.{roll-count, roll-stand}
+use Rattle.sheet.proofs.Grounds.{roll-count}
 use Rattle.quadtree.proofs.Words.{standing}
 use Rattle.nearest.specs.declared.walk.Started.{Started}
+use Rattle.nearest.specs.Question.{questOn}
 use Rattle.nearest.specs.Going.{Fresh, Begun, StartedAll, AllStarted}
+use Rattle.nearest.proofs.Quests.{quest-from, quest-to}
 use Rattle.nearest.proofs.Advance.{shown-as}
 use Rattle.nearest.proofs.Take.{beyond-then, beyond-same}
 use Rattle.nearest.proofs.Begun.{listing-refused, listing-started}
@@ -32,7 +34,7 @@ module _ (c : tie.After-set-out-all) where
   s = begin c
 
   abbrev x : Quest
-  x = outward (officesIn (s .args .list .now)) (s .args .q)
+  x = questOn (s .args .list .now) (s .args .quest)
 
   places : s .args .counts .places ≡ mapOf (s .args .ground .now) .places
   places = standing (s .pre .0) .places
@@ -47,8 +49,11 @@ module _ (c : tie.After-set-out-all) where
   -- and on any map that has the ground
   same : (m : Map) → Charted (s .args .ground .now) (s .args .first .now) (s .args .heads .now) (s .args .lengths .now) m
       → starts m x (x .count) ≡ starts (mapOf (s .args .ground .now)) x (x .count)
-  same m C = starts-same (C .ground) x (x .count) (λ i p. omega (arith, places, C .ground .places, s .pre .1 .1 .1 .0))
-      (λ i p. omega (arith, places, offices, C .ground .places, roll-stand (s .pre .1 .1 .0) i (omega (arith, offices))))
+  same m C =
+      let R = s .pre .1 .1 .0 in
+      let here = s .pre .1 .1 .1 .0 in
+      starts-same (C .ground) x (x .count) (λ i p. omega (arith, places, C .ground .places, quest-from R (s .args .quest) here i (omega (arith, offices))))
+      (λ i p. omega (arith, places, C .ground .places, quest-to R (s .args .quest) here i (omega (arith, offices))))
 
   begun : StartedAll (mapOf (s .args .ground .now)) x (c .set-out-all .last .1 .1 .1 .1 .0) → Begun (s .args .counts .places) (s .args .counts .offices) (c .set-out-all .last .1 .1 .1 .1 .0)
   begun A = record {
@@ -79,7 +84,7 @@ list-nearest-requires c κs =
     let d = c .before .before in
     let x = told d in
     let p = begin x .pre in
-    (p .0, (p .1 .0, (p .1 .1 .0, (begun x (out x _ (d .enum-told .given .1)), (p .1 .1 .1 .2, p .1 .1 .1 .3)))))
+    (p .0, (p .1 .0, (p .1 .1 .0, (begun x (out x _ (d .enum-told .given .1)), (p .1 .1 .1 .0, p .1 .1 .1 .2, p .1 .1 .1 .3)))))
 
 same-length-2 : tie.Need-same-length-2
 same-length-2 c = search needs
@@ -97,7 +102,7 @@ returns-2 c =
     let B = begun x A in
     let s = begin x in (
       beyond-then (x .set-out-all .ensures .0) (y .list-nearest .ensures .0),
-      λ m C. came-listing (s .args .k) (s .args .answer .now) (y .list-nearest .last .1 .1 .1 .1 .1 .1 .1 .0) (y .list-nearest .result) (listing-started m _ (s .args .k) _ (same x m C ∙ A .starts)) (y .list-nearest .ensures .1 m (s .args .q) C _ (B .shown) (B .fresh)),
+      λ m C. came-listing (s .args .k) (s .args .answer .now) (y .list-nearest .last .1 .1 .1 .1 .1 .1 .1 .1 .0) (y .list-nearest .result) (listing-started m _ (s .args .k) _ (same x m C ∙ A .starts)) (y .list-nearest .ensures .1 m C _ (B .shown) (B .fresh)),
     )
 
 pub walk-spec : {M : Type 1} → statement M

@@ -1,12 +1,14 @@
-//! The search outward from q along the stages until k offices are settled (incremental network expansion): no quadtree
-//! is read.
+//! The search from q along the stages, or inward against them, until k offices are settled (incremental network
+//! expansion): no quadtree is read.
 
 use crate::plain::roads::{add_up, packed, unpacked, Queue, Roads, NO_ROAD};
 use crate::plain::sections::{Sections, MOST_PLACES};
+use crate::rules::limits::INWARD;
 use std::cmp::Reverse;
 
-/// The roads, and the offices at each place.
+/// The roads in one direction, and the offices at each place.
 pub struct Net {
+    /// From q on; inward each stage the other way.
     roads: Roads,
     /// The offices at u stand from first[u] to first[u + 1].
     first: Vec<u32>,
@@ -17,7 +19,7 @@ pub struct Net {
 pub type Found = (u32, u32);
 
 impl Net {
-    pub fn of(sections: &Sections) -> Net {
+    pub fn of(sections: &Sections, direction: u32) -> Net {
         let mut first = vec![0; sections.place_count() + 1];
         (0..sections.office_count()).for_each(|office| first[sections.stand(office) + 1] += 1);
         add_up(&mut first);
@@ -28,10 +30,11 @@ impl Net {
             offices[*at as usize] = office as u32;
             *at += 1;
         }
-        Net { roads: Roads::of(sections), first, offices }
+        let roads = Roads::of(sections);
+        Net { roads: if direction == INWARD { roads.reversed() } else { roads }, first, offices }
     }
 
-    /// The k offices nearest by road from q, by length and then number; k is at most the offices that can be reached.
+    /// The k offices nearest by road, by length and then number; k is at most the offices that can be reached.
     pub fn nearest(&self, q: usize, k: usize) -> Vec<Found> {
         let mut found = Vec::with_capacity(2 * k);
         let mut known = [NO_ROAD; MOST_PLACES];
