@@ -28,8 +28,9 @@ static const char usage[] =
     "With no question there, they are read from standard input, one to a line, with spaces or tabs between the words. Blank lines\n"
     "are skipped. What is no question is told on standard error, and the rest is still answered.\n"
     "Where the questions are arguments, the sheet may come on standard input, as /dev/stdin. A question begins at each argument that\n"
-    "begins with a letter, and after two numbers. Where the numbers up to the next such argument, or the last, do not come in twos,\n"
-    "they are no question, all of them together: one is missing, and which cannot be known.\n"
+    "begins with a letter, and after two numbers; so a word that follows its numbers belongs to the next question. Where the numbers up\n"
+    "to the next such argument, or the last, do not come in twos, they are no question, all of them together: one is missing, and\n"
+    "which cannot be known.\n"
     "With -c the answers are columns, with tabs between:\n"
     "    listed   Q K OFFICES REFINEMENTS GAZETTEER DIRECTION                  and then a line for each of the OFFICES listed:\n"
     "    office   Q K RANK OFFICE PLACE LOW HIGH STAGES GAZETTEER DIRECTION    the road is LOW to HIGH furlongs long; STAGES were walked\n"
@@ -425,14 +426,29 @@ static enum status ask_numbers(struct host *host, const struct written *written,
     return ask(host, &asked);
 }
 
+/* A word that gives a direction where a number is due, or NULL. */
+static const struct word *find_late(const struct written *written)
+{
+    unsigned int direction;
+    size_t i;
+    for (i = 1; i < written->word_count && i < WORDS_MOST; i++) {
+        if (read_direction(written->words[i], &direction) == NULL)
+            return &written->words[i];
+    }
+    return NULL;
+}
+
 static enum status ask_written(struct host *host, const struct written *written)
 {
     unsigned int direction = ATLAS_INWARD;
     size_t before = is_lettered(written->words[0]) ? 1 : 0;
     size_t numbers = written->word_count - before;
     const char *fault = before == 0 ? NULL : read_direction(written->words[0], &direction);
+    const struct word *late = find_late(written);
     if (fault != NULL)
         return tell_fault(host, written, written->words[0], fault);
+    if (late != NULL)
+        return tell_fault(host, written, *late, "comes too late: to or from stands before Q and K, once");
     if (numbers != 2) {
         tell_unasked(host, written);
         fprintf(stderr, "too %s numbers (%lu); expected " EXPECTED "\n", numbers < 2 ? "few" : "many", (unsigned long)numbers);

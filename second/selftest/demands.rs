@@ -5,7 +5,7 @@ use crate::rules::limits::*;
 use crate::rules::question::{question_watched, Waiting};
 use crate::rules::refusal::Number;
 use crate::rules::sheet::{words_of, Sheet};
-use crate::selftest::oracle::{road, from_and_to, Road};
+use crate::selftest::oracle::{from_and_to, road, Road};
 use crate::selftest::plain;
 use crate::tally::Tally;
 

@@ -1,7 +1,7 @@
 -- What is written is what the paper's program prints.
 use Prim.Native.Nat.{ℕ, zero, suc, _≤_}
 use native.Mathlib.Omega.{arith}
-use mathlib.Core.Path.{_≡_, refl, sym, ap, subst, _∙_}
+use mathlib.Core.Path.{_≡_, refl, sym, ap, subst}
 use mathlib.Core.List.{List}
 use Rattle.paper.specs.Sizes.{programOffices}
 use Rattle.paper.specs.Served.{Served, refused, served}

@@ -1,4 +1,4 @@
-// The question: the k offices nearest by road to a place.
+// The question: the k offices nearest by road to a place, or from it.
 mod slices;
 mod tree;
 pub mod walk;

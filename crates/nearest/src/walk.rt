@@ -17,7 +17,7 @@ use sheet::places::gazetteer_of;
 use sheet::word;
 ghost use mathlib.Core.Path.{_≡_};
 ghost use mathlib.Core.List.{List};
-ghost use Prim.Native.Nat.{ℕ, _+_, _*_, _≤_, _<_};
+ghost use Prim.Native.Nat.{_+_, _*_, _≤_, _<_};
 ghost use lib.ListN.{length};
 ghost use Rattle.paper.specs.Sizes.{lineWords, slotWords};
 ghost use Rattle.paper.specs.Map.{Map};
@@ -179,25 +179,15 @@ fn advance(
 {
     let n = counts.offices;
     let lead = take_leader(working, n);
-    let number = lead.number;
+    let i = lead.number;
     let trail = lead.trail;
     if lead.clear {
-        return Moved::Listed(number, trail);
+        return Moved::Listed(i, trail);
     }
-    let next = next_trail(
-        ground,
-        counts,
-        first,
-        heads,
-        lengths,
-        list,
-        quest,
-        number,
-        trail,
-    );
+    let next = next_trail(ground, counts, first, heads, lengths, list, quest, i, trail);
     match next {
         Step::To(t) => {
-            put_back(working, n, number, t);
+            put_back(working, n, i, t);
             Moved::Refined
         }
         Step::Refused(refusal) => Moved::Refused(refusal),

@@ -1,25 +1,22 @@
--- What a direction picks, and which numbers are one.
-use Prim.Native.Nat.{ℕ, zero, suc, _≤_, _<_}
-use native.Mathlib.Omega.{arith}
-use mathlib.Core.Path.{_≡_, refl}
-use mathlib.Core.Bool.{true}
+-- What a direction picks.
+use Prim.Native.Nat.{ℕ, _<_}
+use mathlib.Core.Path.{_≡_}
+use mathlib.Core.Bool.{Bool, true, false}
 use lib.Dec.{eqb}
-use borrow.Author.Tests.{eqb-true}
-use Rattle.paper.specs.Sizes.{outwardly, inwardly}
-use Rattle.paper.specs.Quest.{isDirection, byDirection}
-use Rattle.paper.proofs.Test.{either-by}
+use borrow.Author.Tests.{eq-eqb, ne-eqb}
+use Rattle.paper.specs.Sizes.{outwardly}
+use Rattle.paper.specs.Quest.{byDirection}
 
-pub direction-most : (d : ℕ) → isDirection d ≡ true → d ≤ inwardly
-direction-most d h = either-by (eqb d outwardly) (eqb d inwardly) h (λ e. omega (arith, eqb-true d outwardly e)) (λ e. omega (arith, eqb-true d inwardly e))
+module _ (d p r : ℕ) where
+  pub by-outward : d ≡ outwardly → byDirection d p r ≡ p
+  by-outward e = rw (eq-eqb d outwardly e, byDirection)
 
-pub by-outward : (d p r : ℕ) → d ≡ outwardly → byDirection d p r ≡ p
-by-outward zero p r e = refl
-by-outward (suc d) p r e = absurd (omega arith)
+  pub by-inward : (d ≡ outwardly → ⊥) → byDirection d p r ≡ r
+  by-inward ne = rw (ne-eqb d outwardly ne, byDirection)
 
-pub by-inward : (d p r : ℕ) → (d ≡ outwardly → ⊥) → byDirection d p r ≡ r
-by-inward zero p r ne = absurd (ne refl)
-by-inward (suc d) p r ne = refl
-
-pub by-within : (d p r : ℕ) {n : ℕ} → p < n → r < n → byDirection d p r < n
-by-within zero p r a b = a
-by-within (suc d) p r a b = b
+  pub by-within : {n : ℕ} → p < n → r < n → byDirection d p r < n
+  by-within {n} a b = go (eqb d outwardly)
+    where
+      go : (t : Bool) → elim t [ true ↦ p | false ↦ r ] < n
+      go true = a
+      go false = b

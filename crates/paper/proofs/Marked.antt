@@ -133,8 +133,8 @@ inward-replied : reply sheet 2 2 inwardly (replicate 11 7) (replicate 19 7) ≡ 
 unfolding reply sheet word
 inward-replied = refl
 
--- a direction that is neither, with a place, k and slices that are refused by themselves too: 7 is given, and nothing is touched
-neither-replied : reply sheet 2 2 2 (replicate 1 7) [] ≡ record { number = 7; count = 0; refinements = 0; answer = 7 ∷ []; working = [] }
+-- a direction that is neither, with a k and slices that would be refused too: 7 comes first, and nothing is touched
+neither-replied : reply sheet 2 0 2 (replicate 1 7) [] ≡ record { number = 7; count = 0; refinements = 0; answer = 7 ∷ []; working = [] }
 unfolding reply sheet word
 neither-replied = refl
 

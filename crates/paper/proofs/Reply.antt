@@ -9,7 +9,7 @@ use lib.Dec.{leb, ltb}
 use lib.ListN.{length, getD, drop, length-append, length-drop, List·getD-append}
 use lib.Seq.{getD-drop, drop-append-seam}
 use borrow.Author.Tests.{leb-true, ltb-true}
-use Rattle.paper.specs.Sizes.{lineWords, slotWords, mostOffices, endBelow, inwardly}
+use Rattle.paper.specs.Sizes.{lineWords, slotWords, mostOffices, endBelow}
 use Rattle.paper.specs.Test.{both, due, orElse}
 use Rattle.paper.specs.Served.{Served, refused, served}
 use Rattle.paper.specs.Map.{Map, Offices}
@@ -24,7 +24,7 @@ use Rattle.paper.specs.Bounds.{LineWithin, ListedWithin, WordsBelow}
 use Rattle.paper.specs.Reply.{Reply, invalid, ValidOn, Valid, lineOut, linesOut, walkOut, replyBy, replyOn, reply, endOf, endedOn, questOf, AnsweredOn, Answered}
 use Rattle.paper.proofs.Holds.{On, Any}
 use Rattle.paper.proofs.Test.{both-left, both-right, due-true, or-left, or-right, or-zero, or-most, due-most}
-use Rattle.paper.proofs.Direction.{direction-most, by-within}
+use Rattle.paper.proofs.Direction.{by-within}
 use Rattle.paper.proofs.Laid.{passed, laid-out, offices-stand, offices-few}
 use Rattle.paper.proofs.Cleared.{cleared-size}
 use Rattle.paper.proofs.Walk.{Walk}
@@ -35,7 +35,7 @@ use Rattle.paper.proofs.Answer.{seen, answered}
 -- none of 7, 8 and 9 is due, in plain sentences
 pub record Allowed (m : Map) (o : Offices) (q k d : ℕ) (answer working : List ℕ) : Type 0 where
   pub place : q < m .places
-  pub direction : d ≤ inwardly
+  pub direction : isDirection d ≡ true
   pub one : 1 ≤ k
   pub enough : k ≤ o .count
   pub answers : lineWords * k ≤ length answer
@@ -55,7 +55,7 @@ valid m o q k d answer working h =
     let both-hold : pd ≡ true = due-true pd 7 (omega arith) (or-left (due pd 7) _ h) in
     record {
       place = ltb-true _ _ (both-left (ltb q (m .places)) (isDirection d) both-hold);
-      direction = direction-most d (both-right (ltb q (m .places)) (isDirection d) both-hold);
+      direction = both-right (ltb q (m .places)) (isDirection d) both-hold;
       one = leb-true _ _ (both-left a b ab);
       enough = leb-true _ _ (both-right a b ab);
       answers = leb-true _ _ (both-left e f ef);

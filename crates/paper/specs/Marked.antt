@@ -4,7 +4,7 @@ use mathlib.Core.Path.{_≡_}
 use mathlib.Core.List.{List, [], _∷_}
 use Rattle.paper.specs.Served.{Served, served, andThen}
 use Rattle.paper.specs.Map.{Map, Offices}
-use Rattle.paper.specs.Quest.{outward, inward}
+use Rattle.paper.specs.Quest.{Quest, outward, inward}
 use Rattle.paper.specs.Sheet.{mapOf, officesOf}
 use Rattle.paper.specs.Cell.{cell}
 use Rattle.paper.specs.Crow.{crow}
@@ -74,8 +74,18 @@ pub record MarkedTable : Type 0 where
   pub p9 : outcome (listing map (outward offices 2) 1) ≡ served (record { total = 1; lines = line 2 5 5 1 102 ∷ [] })
   pub p10 : outcome (listing map (outward offices 2) 2) ≡ served (record { total = 5; lines = line 2 5 5 1 102 ∷ line 0 11 11 2 101 ∷ [] })
 
--- inward (document 02, item 4): road distances to place 2, first intervals, and the list, unrefined
+-- inward to place 2: the road of office i is so long; its first interval
+abbrev pub towards2 : Quest
+towards2 = inward offices 2
+
+abbrev pub runs : ℕ → ℕ → Type 0
+runs i l = IsD map (towards2 .from i) (towards2 .to i) l
+
+abbrev pub first : ℕ → Served Trail
+first i = start map (towards2 .from i) (towards2 .to i)
+
+-- document 02, item 4: road distances, first intervals, and the list, unrefined
 pub record MarkedInward : Type 0 where
-  pub roads : IsD map (offices .stand 0) 2 11 × IsD map (offices .stand 1) 2 20 × IsD map (offices .stand 2) 2 5
-  pub firsts : (start map (offices .stand 0) 2 ≡ interval 0 11 11) × (start map (offices .stand 1) 2 ≡ interval 3 13 32) × (start map (offices .stand 2) 2 ≡ interval 1 5 5)
-  pub list : outcome (listing map (inward offices 2) 2) ≡ served (record { total = 0; lines = line 2 5 5 0 102 ∷ line 0 11 11 0 101 ∷ [] })
+  pub roads : runs 0 11 × runs 1 20 × runs 2 5
+  pub firsts : (first 0 ≡ interval 0 11 11) × (first 1 ≡ interval 3 13 32) × (first 2 ≡ interval 1 5 5)
+  pub list : outcome (listing map towards2 2) ≡ served (record { total = 0; lines = line 2 5 5 0 102 ∷ line 0 11 11 0 101 ∷ [] })

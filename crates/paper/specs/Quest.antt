@@ -1,6 +1,6 @@
 -- What a question asks of a map.
-use Prim.Native.Nat.{ℕ, zero, suc}
-use mathlib.Core.Bool.{Bool}
+use Prim.Native.Nat.{ℕ}
+use mathlib.Core.Bool.{Bool, true, false}
 use lib.Dec.{eqb}
 use Rattle.paper.specs.Sizes.{outwardly, inwardly}
 use Rattle.paper.specs.Test.{either}
@@ -19,8 +19,7 @@ isDirection d = either (eqb d outwardly) (eqb d inwardly)
 
 -- the first outward, and else the second
 abbrev pub byDirection : ℕ → ℕ → ℕ → ℕ
-byDirection zero p r = p
-byDirection (suc d) p r = r
+byDirection d p r = elim (eqb d outwardly) [ true ↦ p | false ↦ r ]
 
 -- a question about q in the direction d, over a list of offices: outward a road runs from q to the place of each, inward from there to q
 abbrev pub directed : Offices → ℕ → ℕ → Quest

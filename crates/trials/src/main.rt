@@ -1,4 +1,4 @@
-// Runs the cases of the paper that are run and not proved, and its printed cases, through the library, and prints a line for each.
+// Runs the cases of the papers that are run and not proved, the printed cases, and questions both ways on one-way loops, through the library, and prints a line for each.
 mod loops;
 mod marked;
 
