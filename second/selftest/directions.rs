@@ -7,7 +7,7 @@ use crate::inputs::draw::{ask_well, true_sheet, Plan, NO_DIRECTIONS};
 use crate::inputs::edges;
 use crate::inputs::edges::edge::Due;
 use crate::inputs::limit_cases::of_two_words;
-use crate::inputs::marked::{self, block, place, stage};
+use crate::inputs::marked;
 use crate::inputs::rng::Rng;
 use crate::rules::asked::Asked;
 use crate::rules::limits::*;
@@ -17,6 +17,7 @@ use crate::rules::refusal::*;
 use crate::rules::sheet::Sheet;
 use crate::selftest::probe::question_gives;
 use crate::selftest::random::one_sheet;
+use crate::selftest::readings::blind_sheet;
 use crate::tally::Tally;
 
 /// At least so many of sixteen sheets with loop posts are to have other offices, or other roads, in the two directions.
@@ -74,27 +75,25 @@ fn neither_in_the_program(tally: &mut Tally) {
     }
 }
 
-/// Place 1 sees place 0 by an interval of 1 to 0, and place 2 sees nothing; place 0 has no block.
-fn blind_sheet(offices: &[u32]) -> Sheet {
-    Sheet {
-        places: vec![place([0, 0, 71]), place([1, 0, 72]), place([9, 9, 73])],
-        stages: vec![stage([0, 1, 1]), stage([1, 2, 1]), stage([2, 0, 1])],
-        blocks: vec![block([1, 0, 1, 0, 1, 1])],
-        offices: offices.to_vec(),
-    }
+/// The sheet of reading 2 with its block at place 1, which sees place 0 by an interval of 1 to 0; no other has a block.
+fn blind_but_place_1(offices: &[u32]) -> Sheet {
+    let mut sheet = blind_sheet(offices);
+    sheet.blocks[0].place = 1;
+    sheet
 }
 
 /// Towards place 0, by the number of the office; where it stands there, nothing is asked of a block.
 fn first_intervals_inward(tally: &mut Tally) {
     let mut towards_0 = |name: &str, offices: &[u32], due: Number| {
-        question_gives(tally, name, &blind_sheet(offices), Asked::inward(0, 1), due);
+        question_gives(tally, name, &blind_but_place_1(offices), Asked::inward(0, 1), due);
     };
     towards_0("inward, 18 then 17", &[1, 2], 18);
     towards_0("inward, 17 then 18", &[2, 1], 17);
     towards_0("inward, a far 17", &[0, 2], 17);
     towards_0("inward, a far 18", &[0, 0, 1], 18);
     towards_0("inward, near alone", &[0, 0], 0);
-    question_gives(tally, "outward, where place 0 has no block", &blind_sheet(&[0, 0, 1]), Asked::outward(0, 1), 17);
+    let without_a_block = blind_but_place_1(&[0, 0, 1]);
+    question_gives(tally, "outward, where place 0 has no block", &without_a_block, Asked::outward(0, 1), 17);
 }
 
 /// Inward the blocks of q are not asked, those of the offices' places are; outward it is the other way round.

@@ -17,6 +17,7 @@ pub fn run(tally: &mut Tally) {
     tally.same("the marked sheet's bytes", marked::sheet().to_bytes().len(), 316);
     printed(tally);
     printed_inward(tally);
+    refused_both_ways(tally);
     words_in_order(tally);
     marked_measures(tally);
     marked_intervals(tally);
@@ -40,10 +41,6 @@ fn printed(tally: &mut Tally) {
     program_prints(tally, "the printed case", &sheet, Asked::outward(2, 2), "2 5\n2 5 5 1 102\n0 11 11 2 101\n");
     let all = "3 5\n2 5 5 1 102\n0 11 11 2 101\n1 20 20 2 104\n";
     program_prints(tally, "k = 3", &sheet, Asked::outward(2, 3), all);
-    program_prints(tally, "k = 0", &sheet, Asked::outward(2, 0), "refused 8\n");
-    program_prints(tally, "k = 4", &sheet, Asked::outward(2, 4), "refused 8\n");
-    program_prints(tally, "q = 4", &sheet, Asked::outward(4, 2), "refused 7\n");
-    program_prints(tally, "q = 4, k = 4", &sheet, Asked::outward(4, 4), "refused 7\n");
 }
 
 /// From the offices to place 2: from place 1 exactly 5, from place 0 exactly 11, from place 3 by way of place 0, from where
@@ -54,12 +51,18 @@ fn printed_inward(tally: &mut Tally) {
     program_prints(tally, "inward, as item 4 has it", &sheet, Asked::inward(2, 2), "2 0\n2 5 5 0 102\n0 11 11 0 101\n");
     let all = "3 0\n2 5 5 0 102\n0 11 11 0 101\n1 13 32 0 104\n";
     program_prints(tally, "inward, k = 3", &sheet, Asked::inward(2, 3), all);
-    program_prints(tally, "inward, k = 0", &sheet, Asked::inward(2, 0), "refused 8\n");
-    program_prints(tally, "inward, k = 4", &sheet, Asked::inward(2, 4), "refused 8\n");
-    program_prints(tally, "inward, q = 4", &sheet, Asked::inward(4, 4), "refused 7\n");
     sheet.offices = vec![3, 3];
     let two = "2 2\n0 20 20 1 104\n1 20 20 1 104\n";
     program_prints(tally, "inward, two offices at place 3", &sheet, Asked::inward(2, 2), two);
+}
+
+/// The question at fault, whichever way the road runs.
+fn refused_both_ways(tally: &mut Tally) {
+    for (q, k, due) in [(2, 0, 8), (2, 4, 8), (4, 2, 7), (4, 4, 7)] {
+        for asked in Asked::outward(q, k).both_ways() {
+            program_prints(tally, &asked.to_string(), &marked::sheet(), asked, &format!("refused {due}\n"));
+        }
+    }
 }
 
 /// q, k, direction, low byte first.

@@ -47,7 +47,7 @@ fn idle_blocks_come_last(tally: &mut Tally) {
 }
 
 /// Place 0 sees place 1 by an interval of 1 to 0 and place 2 not at all.
-fn blind_sheet(offices: &[u32]) -> Sheet {
+pub fn blind_sheet(offices: &[u32]) -> Sheet {
     Sheet {
         places: vec![place([0, 0, 71]), place([1, 0, 72]), place([9, 9, 73])],
         stages: vec![stage([0, 1, 1]), stage([1, 2, 1]), stage([2, 0, 1])],
