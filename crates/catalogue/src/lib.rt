@@ -1,4 +1,6 @@
 // The check and the question for the catalogue, a program in C: numbers and slices of bytes, every lent word as bytes, low byte first.
+#![tactic(auto)]
+
 mod answer;
 mod bytes;
 mod table;

@@ -1,4 +1,6 @@
 // The code of a cell, and the crow distance between two cells.
+#![tactic(auto)]
+
 ghost use Rattle.std.specs.Prelude.{◌≡◌, ◌*◌, ◌^◌, ◌<◌, ◌≤◌};
 ghost use Rattle.paper.specs.Sizes.{grid_side, top_level};
 ghost use Rattle.paper.specs.Cell.{spread as spread_of, code_of};

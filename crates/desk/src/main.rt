@@ -1,4 +1,6 @@
 // The program: reads q, k and the direction as three words and then a sheet from standard input, and prints the list or the refusal.
+#![tactic(auto)]
+
 mod serve;
 
 use crate::serve::serve;

@@ -1,5 +1,7 @@
 // Whether words differ from each other. Each word but the first hangs under an earlier one, in a tree of digits: below word p, the words whose next
 // digit is d begin at kids[WAYS * p + d], and 0 says that there are none. So a word is sought among all before it in no more steps than it has digits.
+#![tactic(auto)]
+
 ghost use Rattle.std.specs.Prelude.{◌≡◌, true, not, ◌+◌, ◌≤◌, ◌<◌, length};
 ghost use Rattle.paper.specs.Sizes.{most_places};
 ghost use Rattle.paper.specs.Test.{every, apart};

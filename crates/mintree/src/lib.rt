@@ -1,6 +1,8 @@
 // The least of n words under changes of single words, inside one slice that the caller lends. It is a tournament: the words stand at
 // words[tree + n .. tree + 2 n], and words[tree + p], for each node p of 1 .. n, is the lesser of those at 2 p and 2 p + 1.
 // words[tree] is not used. To know whose word is the least, a caller packs the index into it, below the key.
+#![tactic(auto)]
+
 ghost use Rattle.std.specs.Prelude.{◌≡◌, ◌+◌, ◌<◌, min, set};
 ghost use Rattle.mintree.specs.Mintree.{Room, Played, Least, Same};
 

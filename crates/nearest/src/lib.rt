@@ -1,4 +1,6 @@
 // The question: the k offices nearest by road to a place, or from it.
+#![tactic(auto)]
+
 mod slices;
 mod tree;
 pub mod walk;

@@ -2,7 +2,7 @@
 use Prim.Native.Nat.{ℕ, zero, suc, ◌+◌, ◌≤◌, ◌<◌}
 use native.Mathlib.Omega.{arith}
 use native.Mathlib.Decide.{ℕ_discrete}
-use mathlib.Core.Path.{◌≡◌, refl}
+use mathlib.Core.Path.{◌≡◌, refl, sym, subst}
 use mathlib.Core.Option.{some}
 use Rattle.paper.specs.Map.{Map}
 use Rattle.paper.specs.Stage.{stage_of}
@@ -32,10 +32,14 @@ named_next {m} {v} {u} b ne e (leave {n = l} b' ne' e' r) =
     let same : b' ≡ b = cc in
     (l, refl, rw same at r)
 
+named_from : {m : Map} {v u w n n' : ℕ} → u ≡ w → Named m v u n → Named m v w n' → n ≡ n'
+named_from e home home = refl
+named_from e home (leave b ne f r) = absurd (ne (sym e))
+named_from {m = m} {v = v} {n' = n'} e (leave b ne f r) s =
+    let (l, q, r') = named_next b ne f (subst (λ (x : ℕ). Named m v x n') (sym e) s) in omega (arith, named_from refl r r')
+
 pub named_one : {m : Map} {v u n n' : ℕ} → Named m v u n → Named m v u n' → n ≡ n'
-named_one home home = refl
-named_one home (leave b ne e r) = absurd (ne refl)
-named_one (leave b ne e r) s = let (l, q, r') = named_next b ne e s in omega (arith, named_one r r')
+named_one = named_from refl
 
 module _ {m : Map} (L : LaidOut m) (T : Truth m) where
   pub leaving : (u v d : ℕ) → u < m.places → v < m.places → IsD m u v d → (u ≡ v → ⊥) → Leaving m u v d

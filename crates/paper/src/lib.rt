@@ -1,4 +1,6 @@
 // The paper's kinds of number, and what several crates hand to each other.
+#![tactic(auto)]
+
 pub mod sizes;
 
 ghost use Rattle.std.specs.Prelude.{◌≡◌, ◌^◌, ◌<◌};

@@ -1,5 +1,7 @@
 // The length of the shortest road to one place from every place: Dijkstra's method backwards, over a min-tree of packed words.
 // The chains alone say which way the roads run: with heads for tails and tails for heads they lead away from the place.
+#![tactic(auto)]
+
 ghost use Rattle.std.specs.Prelude.{◌≡◌, ℕ, ◌+◌, ◌≤◌, ◌<◌, length, get_or};
 ghost use Rattle.paper.specs.Sizes.{most_places, most_furlongs};
 ghost use Rattle.paper.specs.Map.{Map};

@@ -1,4 +1,6 @@
 // A sheet as bytes: its words, its layout, and its road book.
+#![tactic(auto)]
+
 mod blocks;
 mod book;
 mod offices;

@@ -1,4 +1,6 @@
 // What the program prints, written into a lent slice of bytes: each function writes one text and returns the position after it.
+#![tactic(auto)]
+
 ghost use Rattle.std.specs.Prelude.{◌≡◌, List, ◌∷◌, ℕ, ◌+◌, ◌*◌, ◌≤◌, ◌<◌, length, take, drop};
 ghost use Rattle.paper.specs.Sizes.{line_words};
 ghost use Rattle.paper.specs.Printed.{decimal, after, line_text, refusal_text, list_text, reply_text};

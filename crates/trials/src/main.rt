@@ -1,4 +1,6 @@
 // Runs the cases of the papers that are run and not proved, the printed cases, and questions both ways on one-way loops, through the library, and prints a line for each.
+#![tactic(auto)]
+
 mod loops;
 mod marked;
 

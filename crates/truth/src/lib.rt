@@ -1,4 +1,6 @@
 // The check: whether a sheet tells the truth about its roads, and the road distances between all its places.
+#![tactic(auto)]
+
 pub mod columns;
 pub mod pairs;
 mod slices;
