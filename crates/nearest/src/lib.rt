@@ -25,7 +25,7 @@ use paper::{Counts, Quest};
 use sheet::{Laid, layout, list_at, road_book};
 
 // What a question returns beside its slices: the number, 0 for a list; how many offices are listed; how many refinements were made.
-#[derive(Drop)]
+#[derive(Clone, Copy)]
 pub struct Reply {
     pub number: u32,
     pub count: u32,

@@ -15,7 +15,7 @@ use paper::{Trail, long_furlongs};
 const GONE: u64 = 0xffff_ffff_ffff_ffff;
 
 // A leader: its number and trail, and whether its high end and number come before everybody else's low end and number.
-#[derive(Drop)]
+#[derive(Clone, Copy)]
 pub struct Lead {
     pub number: usize,
     pub trail: Trail,

@@ -24,7 +24,7 @@ use sheet::places::gazetteer_of;
 use sheet::word;
 
 // What one step does: the leader is listed, or refined once, or its refinement is refused.
-#[derive(Drop)]
+#[derive(Clone, Copy)]
 pub enum Moved {
     Listed(usize, Trail),
     Refined,
@@ -32,14 +32,14 @@ pub enum Moved {
 }
 
 // Whether first intervals stand in the working slice.
-#[derive(Drop)]
+#[derive(Clone, Copy)]
 pub enum Started {
     Ready,
     Refused(u32),
 }
 
 // How a walk ends: with the total of refinements, or refused.
-#[derive(Drop)]
+#[derive(Clone, Copy)]
 pub enum Walked {
     Done(u64),
     Refused(u32),

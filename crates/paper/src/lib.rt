@@ -6,11 +6,11 @@ pub mod sizes;
 ghost use Rattle.std.specs.Prelude.{◌≡◌, ◌^◌, ◌<◌};
 
 // Spatial distance, as the crow flies: sizes::CROW_UNIT to a cell.
-#[derive(Drop)]
+#[derive(Clone, Copy)]
 pub struct Spatial(pub u32);
 
 // Network distance, along roads, in furlongs.
-#[derive(Drop)]
+#[derive(Clone, Copy)]
 pub struct Network(pub u64);
 
 // A length as it stands in a word.
@@ -28,14 +28,14 @@ pub fn long_furlongs(word: u64) -> Network
 }
 
 // Where a place lies: x and y are 0 to 1,023.
-#[derive(Drop)]
+#[derive(Clone, Copy)]
 pub struct Cell {
     pub x: u32,
     pub y: u32,
 }
 
 // How many records there are: the places, stages and blocks of the ground, and the offices of the list.
-#[derive(Drop)]
+#[derive(Clone, Copy)]
 pub struct Counts {
     pub places: usize,
     pub stages: usize,
@@ -44,7 +44,7 @@ pub struct Counts {
 }
 
 // How far a question has walked towards a place: where it stands, the length and the stages behind it, and the ends.
-#[derive(Drop)]
+#[derive(Clone, Copy)]
 pub struct Trail {
     pub via: usize,
     pub walked: Network,
@@ -54,7 +54,7 @@ pub struct Trail {
 }
 
 // What a question asks of each office: the road between this place and the office's, in this direction.
-#[derive(Drop)]
+#[derive(Clone, Copy)]
 pub struct Quest {
     pub place: usize,
     pub direction: u32,

@@ -11,7 +11,7 @@ use paper::sizes::{ALL_CELLS, BLOCK_WORDS};
 use sheet::{blocks_at, word};
 
 // The block that covers a cell, if there is one.
-#[derive(Drop)]
+#[derive(Clone, Copy)]
 pub enum Cover {
     By(usize),
     Nothing,

@@ -13,7 +13,7 @@ use paper::{Counts, Network, Spatial};
 use sheet::places::cell_of;
 
 // The low and the high end, or the number of the refusal.
-#[derive(Drop)]
+#[derive(Clone, Copy)]
 pub enum Interval {
     Ends(Network, Network),
     Refused(u32),

@@ -14,7 +14,7 @@ use crate::interval::{Interval, between, code, towards};
 use paper::{Counts, Network, Trail, furlongs};
 
 // The trail that a start or a refinement comes to, or the number of the refusal.
-#[derive(Drop)]
+#[derive(Clone, Copy)]
 pub enum Step {
     To(Trail),
     Refused(u32),

@@ -15,7 +15,7 @@ use paper::sizes::{ALL_CELLS, BLOCK_WORDS, TOP_LEVEL};
 // More than the end of any block.
 const SPAN: u32 = 2 * ALL_CELLS;
 
-#[derive(Drop)]
+#[derive(Clone, Copy)]
 pub struct Block {
     pub owner: u32,
     pub code: u32,

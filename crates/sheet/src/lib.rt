@@ -18,7 +18,7 @@ use paper::Counts;
 use paper::sizes::{BLOCK_WORDS, MOST_PLACES, PLACE_WORDS, STAGE_WORDS, WORD_BYTES};
 
 // What the layout of a sheet comes to: the counts of its sections, or the number of the refusal.
-#[derive(Drop)]
+#[derive(Clone, Copy)]
 pub enum Laid {
     Out(Counts),
     Refused(u32),

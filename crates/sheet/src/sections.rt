@@ -13,7 +13,7 @@ use paper::sizes::{
 };
 
 // What stands at the head of a section: its count, or the number of the refusal.
-#[derive(Drop)]
+#[derive(Clone, Copy)]
 pub enum Counted {
     Records(usize),
     Refused(u32),

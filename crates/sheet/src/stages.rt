@@ -15,7 +15,7 @@ use paper::sizes::{MOST_FURLONGS, MOST_LEAVING, MOST_PLACES, STAGE_WORDS};
 // More than any place.
 const SPAN: u32 = MOST_PLACES as u32;
 
-#[derive(Drop)]
+#[derive(Clone, Copy)]
 pub struct Stage {
     pub tail: u32,
     pub head: u32,

@@ -34,7 +34,7 @@ fn is_reached(
 }
 
 // What a column comes to: the first fault so far, or a place that has no road to the column's.
-#[derive(Drop)]
+#[derive(Clone, Copy)]
 pub enum Column {
     Judged(Fault),
     CutOff,

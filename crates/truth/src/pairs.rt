@@ -20,7 +20,7 @@ use quadtree::interval::{code, crow};
 use quadtree::walk::stage_of;
 
 // The first faulty pair so far, by its first place, and what is due for it. The place is N while there is none.
-#[derive(Drop)]
+#[derive(Clone, Copy)]
 pub struct Fault {
     pub place: usize,
     pub number: u32,

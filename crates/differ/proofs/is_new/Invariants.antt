@@ -1,0 +1,15 @@
+-- `differ::is_new` meets its contract. The invariant: word i is on its way down the tree of those before it, which nothing has changed.
+use mathlib.Core.Path.{◌≡◌, refl, sym, subst, ◌∙◌}
+use Prim.Native.Nat.{ℕ, ◌-◌, ◌/◌}
+use native.Mathlib.Omega.{arith}
+use lib.ListN.{length}
+use Rattle.paper.proofs.Test.{true_false}
+use Rattle.differ.specs.Tree.{ways, Hung}
+use Rattle.differ.proofs.Hanging.{Seeking, seek, seek-met, seek-down, seek-new, seek-hung}
+use Rattle.differ.proofs.is_new.Given as goal
+
+abbrev pub invariant-loop-p : goal.invariant-loop-p
+invariant-loop-p l = (length l.kids ≡ length l.initial.kids) × Hung l.words l.i l.kids × Seeking l.words l.i l.kids l.digits l.p
+
+abbrev pub decreases-loop-p : goal.decreases-loop-p
+decreases-loop-p l = l.i - l.p
