@@ -1,8 +1,15 @@
 -- `text::put_refusal` meets its contract.
+use Prim.Native.Nat.{◌<◌}
 use native.Mathlib.Omega.{arith}
+use lib.ListN.{length}
 use Rattle.text.proofs.Put.{put_length, written_byte, written_then}
 use Rattle.text.proofs.Lines.{refusal_parts, refusal_length}
+use Rattle.text.proofs.put_refusal.Goals.{After-put_decimal-end}
 use Rattle.text.proofs.put_refusal.Goals as goal
+
+-- there is room for the line feed
+room : (c : After-put_decimal-end) → c.put_decimal-end.result < length c.put_decimal-end.new.out
+room c = omega (arith, refusal_length c.args.number, c.put_bytes-next.ensures.past, put_length c.put_bytes-next.ensures.put, c.put_decimal-end.ensures.past, put_length c.put_decimal-end.ensures.put)
 
 pub put_bytes-next-requires : goal.put_bytes-next-requires
 put_bytes-next-requires c = omega (arith, refusal_length c.args.number)
@@ -11,12 +18,12 @@ pub put_decimal-end-requires : goal.put_decimal-end-requires
 put_decimal-end-requires c = omega (arith, refusal_length c.args.number, c.put_bytes-next.ensures.past, put_length c.put_bytes-next.ensures.put)
 
 pub bounds-out-end : goal.bounds-out-end
-bounds-out-end c = omega (arith, refusal_length c.args.number, c.put_bytes-next.ensures.past, put_length c.put_bytes-next.ensures.put, c.put_decimal-end.ensures.past, put_length c.put_decimal-end.ensures.put)
+bounds-out-end c = room (goal.at.bounds-out-end c).After-put_decimal-end
 
 pub overflow_add-result : goal.overflow_add-result
-overflow_add-result c = omega (arith, refusal_length c.args.number, c.put_bytes-next.ensures.past, put_length c.put_bytes-next.ensures.put, c.put_decimal-end.ensures.past, put_length c.put_decimal-end.ensures.put)
+overflow_add-result c = omega (arith, room (goal.at.overflow_add-result c).After-put_decimal-end)
 
 pub returns : goal.returns
 returns c =
     rw (refusal_parts c.args.number)
-    (written_then c.put_bytes-next.ensures (written_then c.put_decimal-end.ensures (written_byte _ 10 _ (omega (arith, refusal_length c.args.number, c.put_bytes-next.ensures.past, put_length c.put_bytes-next.ensures.put, c.put_decimal-end.ensures.past, put_length c.put_decimal-end.ensures.put)))))
+    (written_then c.put_bytes-next.ensures (written_then c.put_decimal-end.ensures (written_byte _ 10 _ (room (goal.at.returns c).After-put_decimal-end))))
