@@ -7,7 +7,7 @@ use lib.ListN.{length}
 use Rattle.paper.specs.declared.Counts.{Counts}
 use Rattle.paper.specs.Sizes.{place_words, stage_words, block_words, most_places, most_stages, most_blocks, most_offices}
 use Rattle.paper.specs.Sheet.{word, stages_at, blocks_at, offices_at, map_of, offices_of}
-use Rattle.paper.specs.Layout.{ends_at, section, layout}
+use Rattle.paper.specs.Layout.{ends_at, layout}
 use Rattle.paper.proofs.Laid.{Stands, stands, Parts, parts, Whole, whole}
 use Rattle.sheet.specs.declared.Laid.TheVariants.{Out, Refused}
 use Rattle.sheet.specs.Laid.{counts_of, laid_by, laid_of, Sectioned, Within, stages_from, blocks_from, offices_from}
