@@ -5,7 +5,7 @@ use native.Mathlib.Nat.{mul-le-mul}
 use mathlib.Core.Path.{◌≡◌}
 use Rattle.paper.specs.Sizes.{ratio_unit}
 use Rattle.paper.specs.Map.{Map}
-use Rattle.paper.specs.Trail.{Ends, between}
+use Rattle.paper.specs.Trail.{between}
 use Rattle.paper.proofs.LaidOut.{Grounded}
 use Rattle.paper.proofs.Ends.{between_bounded}
 use Rattle.paper.proofs.Holds.{Any, given}

@@ -1,0 +1,14 @@
+-- `quadtree::interval::code` meets its contract.
+use mathlib.Core.Path.{◌∙◌}
+use Rattle.cells.proofs.Codes.{code_place}
+use Rattle.quadtree.proofs.Words.{place_room, on_grid}
+use Rattle.quadtree.proofs.interval.code.Goals as goal
+
+pub cell_of-requires : goal.cell_of-requires
+cell_of-requires c = place_room c.requires.ground _ c.requires.v_lt_places
+
+pub code-requires : goal.code-requires
+code-requires c = on_grid c.requires.ground _ _ c.requires.v_lt_places c.cell_of.ensures
+
+pub returns : goal.returns
+returns c = c.code.ensures ∙ code_place _ _ _ c.cell_of.ensures.x c.cell_of.ensures.y
