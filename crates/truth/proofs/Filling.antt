@@ -11,7 +11,7 @@ use Rattle.paper.specs.Map.{Map}
 use Rattle.paper.specs.Sheet.{map_of}
 use Rattle.paper.specs.Road.{Road}
 use Rattle.paper.specs.Slice.{cleared}
-use Rattle.paper.specs.Verdict.{area, CheckedOn}
+use Rattle.paper.specs.Verdict.{CheckedOn}
 use Rattle.paper.proofs.Laid.{lawful_laid}
 use Rattle.paper.proofs.Cleared.{zeros}
 use Rattle.sheet.specs.Ground.{Ground}

@@ -8,7 +8,7 @@ use lib.Seq.{length-take-le, get_or-take}
 use Rattle.paper.specs.declared.Counts.{Counts}
 use Rattle.paper.specs.Map.{Map}
 use Rattle.paper.specs.Sheet.{map_of}
-use Rattle.paper.specs.Layout.{Bytes, layout}
+use Rattle.paper.specs.Layout.{Bytes}
 use Rattle.paper.specs.Verdict.{CheckedOn, Checked, badly_laid, short}
 use Rattle.paper.proofs.LaidOut.{LaidOut}
 use Rattle.paper.proofs.Laid.{lawful_laid}
