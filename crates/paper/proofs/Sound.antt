@@ -9,7 +9,7 @@ use Rattle.paper.specs.Stage.{stage_of}
 use Rattle.paper.specs.Road.{IsD}
 use Rattle.paper.specs.Truth.{Truth}
 use Rattle.paper.proofs.LaidOut.{LaidOut}
-use Rattle.paper.specs.Named.{Named, home, next_by}
+use Rattle.paper.specs.Named.{Named, next_by}
 use Rattle.paper.specs.Trail.{Trail, between, start, refine, ordered, tested, fresh, onward}
 use Rattle.paper.proofs.Holds.{Holds, on_then, on_true}
 use Rattle.paper.proofs.Ends.{Right, between_right}

@@ -1,6 +1,6 @@
 -- `cells::root` meets its contract. The invariant: the root is one of the next `span` numbers. The measure is `span`.
 use native.Mathlib.Omega.{arith}
-use Rattle.cells.proofs.Halving.{Within, within_all, within_above, within_below, within_one, square_fits}
+use Rattle.cells.proofs.Halving.{within_all, within_above, within_below, within_one, square_fits}
 use Rattle.cells.proofs.root.Goals.{then-middle-n, else-middle-n}
 use Rattle.cells.proofs.root.Goals as goal
 

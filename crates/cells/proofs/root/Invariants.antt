@@ -1,7 +1,5 @@
 -- `cells::root` meets its contract. The invariant: the root is one of the next `span` numbers. The measure is `span`.
-use mathlib.Core.Logic.{⊎_elim}
-use native.Mathlib.Omega.{arith}
-use Rattle.cells.proofs.Halving.{Within, within_all, within_above, within_below, within_one, square_fits}
+use Rattle.cells.proofs.Halving.{Within}
 use Rattle.cells.proofs.root.Given as goal
 
 abbrev pub invariant-loop-span : goal.invariant-loop-span

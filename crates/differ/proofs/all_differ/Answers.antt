@@ -1,13 +1,12 @@
 -- `differ::all_differ` meets its contract. The invariant: the words up to i differ, and hang in the tree.
 use mathlib.Core.Path.{◌≡◌, refl, sym, ◌∙◌}
 use mathlib.Core.Bool.{true}
-use Prim.Native.Nat.{ℕ, ◌+◌, ◌-◌, ◌*◌, ◌<◌}
+use Prim.Native.Nat.{ℕ, ◌+◌, ◌*◌}
 use native.Mathlib.Omega.{arith}
-use lib.ListN.{length, length-replicate}
-use borrow.Author.Tests.{not-true, not-false}
+use lib.ListN.{length-replicate}
 use Rattle.paper.specs.Sizes.{most_places}
 use Rattle.paper.specs.Test.{every, apart}
-use Rattle.differ.specs.Tree.{same, ways, Hung}
+use Rattle.differ.specs.Tree.{ways}
 use Rattle.differ.proofs.Hanging.{hung_first, apart_more, apart-fails, apart_fewer}
 use Rattle.differ.proofs.all_differ.Goals as goal
 

@@ -1,10 +1,9 @@
 -- `differ::is_new` meets its contract. The invariant: word i is on its way down the tree of those before it, which nothing has changed.
-use mathlib.Core.Path.{◌≡◌, refl, sym, subst, ◌∙◌}
-use Prim.Native.Nat.{ℕ, ◌-◌, ◌/◌}
+use mathlib.Core.Path.{refl, sym, subst, ◌∙◌}
+use Prim.Native.Nat.{ℕ, ◌/◌}
 use native.Mathlib.Omega.{arith}
-use lib.ListN.{length}
 use Rattle.paper.proofs.Test.{true_false}
-use Rattle.differ.specs.Tree.{ways, Hung}
+use Rattle.differ.specs.Tree.{ways}
 use Rattle.differ.proofs.Hanging.{Seeking, seek, seek-met, seek-down, seek-new, seek-hung}
 use Rattle.differ.proofs.is_new.Goals as goal
 
@@ -19,8 +18,7 @@ loop-p-smaller c = omega (arith, c.index-next.ensures, c.loop-p.invariant.1.late
 
 pub loop-p-preserved : goal.loop-p-preserved
 loop-p-preserved c =
-    let e = c.index-next.ensures in
-    (
+    let e = c.index-next.ensures in (
       c.loop-p.invariant.0,
       c.loop-p.invariant.1,
       subst (λ (q : ℕ). Seeking c.args.words.now c.args.i c.loop-p.kids (c.loop-p.digits / ways) q) (sym e)

@@ -1,11 +1,9 @@
 -- `differ::is_new` meets its contract. The invariant: word i is on its way down the tree of those before it, which nothing has changed.
-use mathlib.Core.Path.{◌≡◌, refl, sym, subst, ◌∙◌}
-use Prim.Native.Nat.{ℕ, ◌-◌, ◌/◌}
-use native.Mathlib.Omega.{arith}
+use mathlib.Core.Path.{◌≡◌}
+use Prim.Native.Nat.{◌-◌}
 use lib.ListN.{length}
-use Rattle.paper.proofs.Test.{true_false}
-use Rattle.differ.specs.Tree.{ways, Hung}
-use Rattle.differ.proofs.Hanging.{Seeking, seek, seek-met, seek-down, seek-new, seek-hung}
+use Rattle.differ.specs.Tree.{Hung}
+use Rattle.differ.proofs.Hanging.{Seeking}
 use Rattle.differ.proofs.is_new.Given as goal
 
 abbrev pub invariant-loop-p : goal.invariant-loop-p

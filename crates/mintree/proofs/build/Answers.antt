@@ -1,5 +1,5 @@
 -- `mintree::build` meets its contract. The invariant: the rule holds from the node p on. The measure is p.
-use Rattle.mintree.proofs.Nodes.{Built, built_start, built_step, built_end}
+use Rattle.mintree.proofs.Nodes.{built_start, built_step, built_end}
 use Rattle.mintree.proofs.build.Goals as goal
 
 pub loop-p-init : goal.loop-p-init

@@ -1,6 +1,5 @@
 -- `mintree::change` meets its contract. The invariant: won is the word of the node p, and the rule holds but at the node above p. The measure is p.
-use lib.ListN.{length-set}
-use Rattle.mintree.proofs.Nodes.{Loose, loose_start, loose_step, loose_end}
+use Rattle.mintree.proofs.Nodes.{Loose}
 use Rattle.mintree.proofs.change.Given as goal
 
 abbrev pub invariant-loop-p : goal.invariant-loop-p
