@@ -1,0 +1,11 @@
+-- `nearest::slices::clear` meets its contract.
+use Prim.Native.Nat.{◌-◌, ◌≤◌}
+use native.Mathlib.Omega.{arith}
+use Rattle.nearest.proofs.Stores.{Zeroed, zeroed_none, zeroed_more, zeroed_all}
+use Rattle.nearest.proofs.slices.clear.Given as goal
+
+abbrev pub invariant-loop-i : goal.invariant-loop-i
+invariant-loop-i l = (l.i ≤ l.n) × Zeroed l.initial.slice l.slice l.i
+
+abbrev pub decreases-loop-i : goal.decreases-loop-i
+decreases-loop-i l = l.n - l.i
