@@ -15,26 +15,19 @@ use Rattle.nearest.specs.declared.walk.Walked.{Walked}
 use Rattle.nearest.specs.Going.{Came}
 use Rattle.nearest.specs.Question.{replied}
 use Rattle.nearest.proofs.Asking.{ask_invalid, ask-allowed, ask-works, ask-done, ask-refused}
-use Rattle.nearest.proofs.ask.Goals.{After-invalid-number, After-walk_mapped-ended, Else-number-ne0, Start}
+use Rattle.nearest.proofs.ask.Goals.{After-invalid-number, After-walk_mapped-ended, Else-number-ne0}
 use Rattle.nearest.proofs.ask.Goals as goal
-
--- the counts are those of the map and of the list
-places : (c : Start) → c.args.counts.places ≡ (map_of c.args.ground.now).places
-places c = c.requires.mapped.parts.places
-
-offices : (c : Start) → c.args.counts.offices ≡ (offices_in c.args.list.now).count
-offices c = roll_count c.requires.roll
 
 -- what the test of 7, 8 and 9 comes to
 tested : (c : After-invalid-number) → c.invalid-number.result ≡ invalid (map_of c.args.ground.now) (offices_in c.args.list.now) c.args.q c.args.k c.args.direction c.args.answer.now c.args.working.now
-tested c = c.invalid-number.ensures _ _ _ _ (sym (places c.before.before.before.before.before.before)) (sym (offices c.before.before.before.before.before.before)) refl refl
+tested c = c.invalid-number.ensures _ _ _ _ (sym c.requires.mapped.parts.places) (sym (roll_count c.requires.roll)) refl refl
 
 -- a question that is valid: what the walk needs
 allowed : (c : Else-number-ne0) → Allowed (map_of c.args.ground.now) (offices_in c.args.list.now) c.args.q c.args.k c.args.direction c.args.answer.now c.args.working.now
-allowed c = ask-allowed _ _ _ (offices c.before.before.before.before.before.before.before) _ _ _ _ _ _ ((c.invalid-number.ensures _ _ _ _ (sym (places c.before.before.before.before.before.before)) (sym (offices c.before.before.before.before.before.before)) refl refl)) c.if-number-ne0.false
+allowed c = ask-allowed _ _ _ (roll_count c.requires.roll) _ _ _ _ _ _ ((c.invalid-number.ensures _ _ _ _ (sym c.requires.mapped.parts.places) (sym (roll_count c.requires.roll)) refl refl)) c.if-number-ne0.false
 
 works : (c : Else-number-ne0) → slot_words * c.args.counts.offices ≤ length c.args.working.now
-works c = ask-works (map_of c.args.ground.now) (offices_in c.args.list.now) _ (offices c.before.before.before.before.before.before.before) _ _ _ _ _ _ ((c.invalid-number.ensures _ _ _ _ (sym (places c.before.before.before.before.before.before)) (sym (offices c.before.before.before.before.before.before)) refl refl)) c.if-number-ne0.false
+works c = ask-works (map_of c.args.ground.now) (offices_in c.args.list.now) _ (roll_count c.requires.roll) _ _ _ _ _ _ ((c.invalid-number.ensures _ _ _ _ (sym c.requires.mapped.parts.places) (sym (roll_count c.requires.roll)) refl refl)) c.if-number-ne0.false
 
 -- how the walk ended
 ended : (c : After-walk_mapped-ended) → (r : Walked) → c.walk_mapped-ended.result ≡ r
@@ -48,10 +41,10 @@ invalid-number-requires c = c.requires.roll.few
 pub returns-then-number-ne0 : goal.returns-then-number-ne0
 returns-then-number-ne0 c =
     ap (λ (r : code.Reply). replied r c.args.answer.now c.args.working.now) c.refused.ensures
-    ∙ ask_invalid _ _ _ (offices (goal.at.returns-then-number-ne0 c).Start) _ _ _ _ _ _ (tested (goal.at.returns-then-number-ne0 c).After-invalid-number) c.if-number-ne0.true
+    ∙ ask_invalid _ _ _ (roll_count c.requires.roll) _ _ _ _ _ _ (tested (goal.at.returns-then-number-ne0 c).After-invalid-number) c.if-number-ne0.true
 
 pub walk_mapped-ended-requires : goal.walk_mapped-ended-requires
-walk_mapped-ended-requires c = let A = allowed (goal.at.walk_mapped-ended-requires c).Else-number-ne0 in record { mapped = c.requires.mapped; roll = (c.requires.roll, omega (arith, A.place, places (goal.at.walk_mapped-ended-requires c).Start), A.one, omega (arith, A.enough, offices (goal.at.walk_mapped-ended-requires c).Start), A.answers, works (goal.at.walk_mapped-ended-requires c).Else-number-ne0) }
+walk_mapped-ended-requires c = let A = allowed (goal.at.walk_mapped-ended-requires c).Else-number-ne0 in record { mapped = c.requires.mapped; roll = (c.requires.roll, omega (arith, A.place, c.requires.mapped.parts.places), A.one, omega (arith, A.enough, roll_count c.requires.roll), A.answers, works (goal.at.walk_mapped-ended-requires c).Else-number-ne0) }
 
 pub overflow_mul-counts : goal.overflow_mul-counts
 overflow_mul-counts c = omega (arith, c.requires.roll.few)
@@ -65,10 +58,10 @@ clear-requires-in-Refused c = omega (arith, (allowed (goal.at.clear-requires-in-
 pub returns-in-Done : goal.returns-in-Done
 returns-in-Done c =
     let E = ended (goal.at.returns-in-Done c).After-walk_mapped-ended _ c.in-Done.is in
-    ask-done _ _ _ (offices (goal.at.returns-in-Done c).Start) _ _ _ _ _ _ (tested (goal.at.returns-in-Done c).After-invalid-number) c.if-number-ne0.false _ _ c.walk_mapped-ended.ensures.beyond c.clear.ensures E.0 _ _ E.1 E.2 E.3
+    ask-done _ _ _ (roll_count c.requires.roll) _ _ _ _ _ _ (tested (goal.at.returns-in-Done c).After-invalid-number) c.if-number-ne0.false _ _ c.walk_mapped-ended.ensures.beyond c.clear.ensures E.0 _ _ E.1 E.2 E.3
 
 pub returns-in-Refused : goal.returns-in-Refused
 returns-in-Refused c =
     let E = ended (goal.at.returns-in-Refused c).After-walk_mapped-ended _ c.in-Refused.is in
     ap (λ (r : code.Reply). replied r c.clear-in-Refused.new.slice c.clear.new.slice) c.refused-in-Refused.ensures
-    ∙ ask-refused _ _ _ (offices (goal.at.returns-in-Refused c).Start) _ _ _ _ _ _ (tested (goal.at.returns-in-Refused c).After-invalid-number) c.if-number-ne0.false _ _ c.walk_mapped-ended.ensures.beyond c.clear.ensures _ _ _ E.0 E.1 c.clear-in-Refused.ensures
+    ∙ ask-refused _ _ _ (roll_count c.requires.roll) _ _ _ _ _ _ (tested (goal.at.returns-in-Refused c).After-invalid-number) c.if-number-ne0.false _ _ c.walk_mapped-ended.ensures.beyond c.clear.ensures _ _ _ E.0 E.1 c.clear-in-Refused.ensures

@@ -14,7 +14,7 @@ directed c = sym c.is_direction.ensures ∙ c.if-not-is_direction.false
 
 -- and from where the test of k is past
 past-k : (c : Else-counts-k) → is_direction c.args.direction ≡ true
-past-k c = directed c.before.before.before
+past-k c = sym c.is_direction.ensures ∙ c.if-not-is_direction.false
 
 pub returns-then-counts-q : goal.returns-then-counts-q
 returns-then-counts-q c = λ m o a w p n e f. sym (invalid_place m o _ _ _ _ _ (omega arith))

@@ -18,7 +18,7 @@ use Rattle.nearest.proofs.question.Goals.{After-layout-laid, After-list_at-at, I
 use Rattle.nearest.proofs.question.Goals as goal
 
 bytes : (c : After-layout-laid) → Bytes c.args.sheet.now
-bytes c = λ i p. (c.shared_slice_known-1.given i).fits
+bytes c = λ i p. (c.type_inv.sheet i).fits
 
 -- the sheet has nothing due in its layout, and these counts
 out : (c : In-Out) → (layout c.args.sheet.now ≡ 0) × (c.in-Out.counts ≡ counts_of c.args.sheet.now)

@@ -4,7 +4,6 @@ use Prim.Native.Nat.{ℕ}
 use native.Mathlib.Omega.{arith}
 use Rattle.paper.specs.Map.{Map}
 use Rattle.paper.specs.Served.{served}
-use Rattle.paper.specs.Quest.{Quest}
 use Rattle.paper.specs.Trail.{refine}
 use Rattle.paper.specs.Bounds.{Sane}
 use Rattle.paper.proofs.Bounds.{refine_sane}
@@ -19,11 +18,8 @@ use Rattle.nearest.proofs.Quests.{quest_to}
 use Rattle.nearest.proofs.Steps.{step_to, step_no}
 use Rattle.nearest.proofs.Take.{beyond_then}
 use Rattle.nearest.proofs.Advance.{advance_listed, advance-walked, advance-refused, one_out}
-use Rattle.nearest.proofs.walk.advance.Goals.{After-take_leader-lead, In-To, Start}
+use Rattle.nearest.proofs.walk.advance.Goals.{After-take_leader-lead, In-To}
 use Rattle.nearest.proofs.walk.advance.Goals as goal
-
-abbrev quest : (c : Start) → Quest
-quest c = quest_on c.args.list.now c.args.quest
 
 -- a map that has the ground has as many places as are counted
 places : (c : After-take_leader-lead) (m : Map) → Charted c.args.ground.now c.args.first.now c.args.heads.now c.args.lengths.now m
@@ -36,26 +32,26 @@ waiting c = c.take_leader-lead.ensures.by_index _ _ c.requires.place_lt_places.1
 
 -- what the refinement came to, on any map that has the ground and the book; its trail is sane
 refined : (c : In-To) (m : Map) → Charted c.args.ground.now c.args.first.now c.args.heads.now c.args.lengths.now m
-    → refine m ((quest c.before.before.before.before.before.before.before.before.before.before.before.before.before.before.before.before.before).to c.take_leader-lead.result.number) (trail_of c.take_leader-lead.result.trail) ≡ served (trail_of c.in-To.t)
+    → refine m ((quest_on c.args.list.now c.args.quest).to c.take_leader-lead.result.number) (trail_of c.take_leader-lead.result.trail) ≡ served (trail_of c.in-To.t)
 refined c m C = step_to _ _ (sym c.in-To.is ∙ c.next_trail-next.ensures m C)
 
 sane : (c : In-To) → Sane c.args.counts.places (trail_of c.in-To.t)
 sane c =
-    let p = c.requires-raw in
-    let C = p.1.0.charted in
-    let e = places c.before.before.before.before.before.before.before.before.before{-VIEW-} _ C in
-    let old = subst (λ (n : ℕ). Sane n (trail_of c.take_leader-lead.result.trail)) e ((c.take_leader-lead.ensures.by_index _ _ c.requires.place_lt_places.1.shown)).sane in
+    let C = c.requires.chart.charted in
+    let e : c.args.counts.places ≡ c.requires.chart.map.places = (standing c.requires.ground).places ∙ sym C.ground.places in
+    let L = c.take_leader-lead.ensures.by_index _ _ c.requires.place_lt_places.1.shown in
+    let old = subst (λ (n : ℕ). Sane n (trail_of c.take_leader-lead.result.trail)) e L.sane in
     subst (λ (n : ℕ). Sane n (trail_of c.in-To.t)) (sym e)
-    (refine_sane (laid C) _ (omega (arith, e, quest_to p.1.1.0 c.args.quest p.1.1.1.0 _ ((c.take_leader-lead.ensures.by_index _ _ c.requires.place_lt_places.1.shown)).here)) _ _ old (refined c _ C))
+    (refine_sane (laid C) _ (omega (arith, e, quest_to c.requires.roll c.args.quest c.requires.place_lt_places.0 _ L.here)) _ _ old (refined c _ C))
 
 pub take_leader-lead-requires : goal.take_leader-lead-requires
 take_leader-lead-requires c = record { places = _; waiting = c.requires.place_lt_places.1 }
 
 pub returns-then-lead : goal.returns-then-lead
-returns-then-lead c = record { beyond = c.take_leader-lead.ensures.beyond; stepped = (λ m C st S. advance_listed _ _ _ _ (places (goal.at.returns-then-lead c).After-take_leader-lead m C) (roll_count c.requires.roll) st _ _ (c.take_leader-lead.ensures.by_index _ _ S) c.if-lead.true, ) }
+returns-then-lead c = record { beyond = c.take_leader-lead.ensures.beyond; stepped = (λ m C st S. advance_listed _ _ _ _ (places (goal.at.returns-then-lead c).After-take_leader-lead m C) (roll_count c.requires.roll) st _ _ (c.take_leader-lead.ensures.by_index _ _ S) c.if-lead.true) }
 
 pub next_trail-next-requires : goal.next_trail-next-requires
-next_trail-next-requires c = let p = c.requires-raw in record { ground = p.0; chart = p.1.0; roll = p.1.1.0; place_lt_places = (p.1.1.1.0, (waiting (goal.at.next_trail-next-requires c).After-take_leader-lead).here, (waiting (goal.at.next_trail-next-requires c).After-take_leader-lead).sane) }
+next_trail-next-requires c = record { ground = c.requires.ground; chart = c.requires.chart; roll = c.requires.roll; place_lt_places = (c.requires.place_lt_places.0, (waiting (goal.at.next_trail-next-requires c).After-take_leader-lead).here, (waiting (goal.at.next_trail-next-requires c).After-take_leader-lead).sane) }
 
 pub put_back-requires : goal.put_back-requires
 put_back-requires c = one_out (waiting (goal.at.put_back-requires c).After-take_leader-lead) _ (sane (goal.at.put_back-requires c).In-To)
@@ -64,9 +60,9 @@ pub returns-in-To : goal.returns-in-To
 returns-in-To c =
     record { beyond = beyond_then c.take_leader-lead.ensures.beyond c.put_back.ensures.beyond; stepped = (λ m C st S. let L = c.take_leader-lead.ensures.by_index _ _ S in
           advance-walked _ _ _ _ (places (goal.at.returns-in-To c).After-take_leader-lead m C) (roll_count c.requires.roll) st _ _ L c.if-lead.false _ refl _ (refined (goal.at.returns-in-To c).In-To m C) _
-          (c.put_back.ensures.by_index _ st.slots L.shown (sane (goal.at.returns-in-To c).In-To)), ) }
+          (c.put_back.ensures.by_index _ st.slots L.shown (sane (goal.at.returns-in-To c).In-To))) }
 
 pub returns-in-Refused : goal.returns-in-Refused
 returns-in-Refused c =
     record { beyond = c.take_leader-lead.ensures.beyond; stepped = (λ m C st S. advance-refused _ _ _ _ (places (goal.at.returns-in-Refused c).After-take_leader-lead m C) (roll_count c.requires.roll) st _ _ (c.take_leader-lead.ensures.by_index _ _ S) c.if-lead.false _ refl _
-          (step_no _ _ (sym c.in-Refused.is ∙ c.next_trail-next.ensures m C)), ) }
+          (step_no _ _ (sym c.in-Refused.is ∙ c.next_trail-next.ensures m C))) }
