@@ -8,7 +8,7 @@ use lib.Dec.{leb, ltb}
 use lib.ListN.{length}
 use borrow.Author.Tests.{lt-ltb, le-ltb, lt-leb, le-leb}
 use Rattle.paper.specs.Sizes.{line_words, slot_words}
-use Rattle.paper.specs.Test.{both, due}
+use Rattle.paper.specs.Test.{both}
 use Rattle.paper.specs.Map.{Map, Offices}
 use Rattle.paper.specs.Quest.{Quest, is_direction, directed}
 use Rattle.paper.specs.Listing.{listing}

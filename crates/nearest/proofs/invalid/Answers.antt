@@ -2,7 +2,6 @@
 use mathlib.Core.Bool.{true}
 use mathlib.Core.Path.{◌≡◌, sym, ◌∙◌}
 use native.Mathlib.Omega.{arith}
-use borrow.Author.Tests.{not-true, not-false}
 use Rattle.paper.specs.Quest.{is_direction}
 use Rattle.nearest.proofs.Replies.{invalid_place, invalid_direction, invalid_none, invalid-many, invalid-answer, invalid-working, invalid-not}
 use Rattle.nearest.proofs.invalid.Goals.{Else-counts-k, Else-not-is_direction}

@@ -1,7 +1,6 @@
 -- `nearest::slices::clear` meets its contract.
 use Prim.Native.Nat.{◌-◌, ◌≤◌}
-use native.Mathlib.Omega.{arith}
-use Rattle.nearest.proofs.Stores.{Zeroed, zeroed_none, zeroed_more, zeroed_all}
+use Rattle.nearest.proofs.Stores.{Zeroed}
 use Rattle.nearest.proofs.slices.clear.Given as goal
 
 abbrev pub invariant-loop-i : goal.invariant-loop-i

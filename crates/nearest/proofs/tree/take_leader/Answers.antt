@@ -20,5 +20,8 @@ key-requires c =
 
 pub returns : goal.returns
 returns c =
-    let W = c.requires.waiting in record { beyond = changed_beyond _ _ _ _ _ (take_inside W _ c.top-least.ensures) c.change.ensures.same; by_index = (λ places ss S. led W _ c.top-least.ensures places ss S _ _ c.change.ensures.played_2 c.top-rest.ensures _ refl c.trail_at-trail.ensures.0 (c.trail_at-trail.ensures.1 ∙ c.long_furlongs.ensures)
-          (ap (λ (k : ℕ). ltb k c.top-rest.result) c.key.ensures) c.change.ensures.same) }
+    let W = c.requires.waiting in record {
+      beyond = changed_beyond _ _ _ _ _ (take_inside W _ c.top-least.ensures) c.change.ensures.same;
+      by_index = (λ places ss S. led W _ c.top-least.ensures places ss S _ _ c.change.ensures.played_2 c.top-rest.ensures _ refl c.trail_at-trail.ensures.0 (c.trail_at-trail.ensures.1 ∙ c.long_furlongs.ensures)
+          (ap (λ (k : ℕ). ltb k c.top-rest.result) c.key.ensures) c.change.ensures.same);
+    }

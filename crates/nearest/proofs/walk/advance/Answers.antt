@@ -58,11 +58,17 @@ put_back-requires c = one_out (waiting (goal.at.put_back-requires c).After-take_
 
 pub returns-in-To : goal.returns-in-To
 returns-in-To c =
-    record { beyond = beyond_then c.take_leader-lead.ensures.beyond c.put_back.ensures.beyond; stepped = (λ m C st S. let L = c.take_leader-lead.ensures.by_index _ _ S in
+    record {
+      beyond = beyond_then c.take_leader-lead.ensures.beyond c.put_back.ensures.beyond;
+      stepped = (λ m C st S. let L = c.take_leader-lead.ensures.by_index _ _ S in
           advance-walked _ _ _ _ (places (goal.at.returns-in-To c).After-take_leader-lead m C) (roll_count c.requires.roll) st _ _ L c.if-lead.false _ refl _ (refined (goal.at.returns-in-To c).In-To m C) _
-          (c.put_back.ensures.by_index _ st.slots L.shown (sane (goal.at.returns-in-To c).In-To))) }
+          (c.put_back.ensures.by_index _ st.slots L.shown (sane (goal.at.returns-in-To c).In-To)));
+    }
 
 pub returns-in-Refused : goal.returns-in-Refused
 returns-in-Refused c =
-    record { beyond = c.take_leader-lead.ensures.beyond; stepped = (λ m C st S. advance-refused _ _ _ _ (places (goal.at.returns-in-Refused c).After-take_leader-lead m C) (roll_count c.requires.roll) st _ _ (c.take_leader-lead.ensures.by_index _ _ S) c.if-lead.false _ refl _
-          (step_no _ _ (sym c.in-Refused.is ∙ c.next_trail-next.ensures m C))) }
+    record {
+      beyond = c.take_leader-lead.ensures.beyond;
+      stepped = (λ m C st S. advance-refused _ _ _ _ (places (goal.at.returns-in-Refused c).After-take_leader-lead m C) (roll_count c.requires.roll) st _ _ (c.take_leader-lead.ensures.by_index _ _ S) c.if-lead.false _ refl _
+          (step_no _ _ (sym c.in-Refused.is ∙ c.next_trail-next.ensures m C)));
+    }

@@ -1,13 +1,11 @@
 -- `nearest::walk::list_nearest` meets its contract. The invariant: on any map that has the ground and the book, the listing is under way.
 use mathlib.Core.Path.{◌≡◌, refl, sym, subst, ◌∙◌}
-use mathlib.Core.List.{List}
-use Prim.Native.Nat.{ℕ, ◌+◌, ◌-◌, ◌*◌, ◌≤◌, ◌<◌}
+use Prim.Native.Nat.{ℕ, ◌*◌, ◌≤◌, ◌<◌}
 use native.Mathlib.Omega.{arith}
 use lib.ListN.{length}
-use Rattle.paper.specs.Sizes.{slot_words, most_offices, most_places}
+use Rattle.paper.specs.Sizes.{most_offices, most_places}
 use Rattle.paper.specs.Map.{Map}
-use Rattle.paper.specs.Sheet.{offices_in}
-use Rattle.paper.specs.Listing.{Slot, State, begin, run, enough}
+use Rattle.paper.specs.Listing.{State}
 use Rattle.sheet.specs.Ground.{Charted}
 use Rattle.sheet.proofs.Grounds.{roll_count}
 use Rattle.quadtree.proofs.Words.{standing}
@@ -15,11 +13,11 @@ use Rattle.paper.specs.declared.Trail.{Trail}
 use Rattle.nearest.specs.declared.walk.Moved.{Moved}
 use Rattle.nearest.specs.declared.walk.Moved.TheVariants as moved
 use Rattle.nearest.specs.Question.{quest_on}
-use Rattle.nearest.specs.Working.{Shown, Beyond}
+use Rattle.nearest.specs.Working.{Shown}
 use Rattle.nearest.specs.Going.{Fresh, Waiting, Stepped}
 use Rattle.nearest.proofs.Advance.{shown_as}
 use Rattle.nearest.proofs.Take.{beyond_then, beyond_same}
-use Rattle.nearest.proofs.Progress.{Progress, progress_begin, progress_long, progress-shown, progress-waits, progress-most, progress-small, progress-listed, progress-walked, progress-refused, progress_done}
+use Rattle.nearest.proofs.Progress.{progress_begin, progress_long, progress-shown, progress-waits, progress-most, progress-small, progress-listed, progress-walked, progress-refused, progress_done}
 use Rattle.nearest.proofs.walk.list_nearest.Goals.{After-advance-moved, At-loop-listed}
 use Rattle.nearest.proofs.walk.list_nearest.Goals as goal
 
@@ -75,13 +73,12 @@ pub loop-listed-smaller-in-Listed : goal.loop-listed-smaller-in-Listed
 loop-listed-smaller-in-Listed c = omega (arith, c.loop-listed-test.true, (under (goal.at.loop-listed-smaller-in-Listed c).At-loop-listed).most)
 
 pub loop-listed-preserved-in-Listed : goal.loop-listed-preserved-in-Listed
-loop-listed-preserved-in-Listed c =
-    (
-      beyond_then c.loop-listed.invariant.0 c.advance-moved.ensures.beyond,
-      λ m C ss S F. let Q = c.loop-listed.invariant.1 m C ss S F in
-          let S' = progress-shown Q _ _ ((standing c.requires.ground).places ∙ sym C.ground.places) (roll_count c.requires.roll) in
-          progress-listed Q c.loop-listed-test.true (omega (arith, roll_count c.requires.roll, c.requires.place_lt_places.1)) _ _ _ _ (made (goal.at.loop-listed-preserved-in-Listed c).After-advance-moved _ c.in-Listed.is m C _ S') (c.list_office.ensures m (quest_on c.args.list.now c.args.quest) C.ground refl),
-    )
+loop-listed-preserved-in-Listed c = (
+  beyond_then c.loop-listed.invariant.0 c.advance-moved.ensures.beyond,
+  λ m C ss S F. let Q = c.loop-listed.invariant.1 m C ss S F in
+      let S' = progress-shown Q _ _ ((standing c.requires.ground).places ∙ sym C.ground.places) (roll_count c.requires.roll) in
+      progress-listed Q c.loop-listed-test.true (omega (arith, roll_count c.requires.roll, c.requires.place_lt_places.1)) _ _ _ _ (made (goal.at.loop-listed-preserved-in-Listed c).After-advance-moved _ c.in-Listed.is m C _ S') (c.list_office.ensures m (quest_on c.args.list.now c.args.quest) C.ground refl),
+)
 
 pub overflow_add-total : goal.overflow_add-total
 overflow_add-total c = omega (arith, (under (goal.at.overflow_add-total c).At-loop-listed).small)
@@ -90,19 +87,21 @@ pub loop-listed-smaller : goal.loop-listed-smaller
 loop-listed-smaller c = omega (arith, c.loop-listed-test.true, (under (goal.at.loop-listed-smaller c).At-loop-listed).most)
 
 pub loop-listed-preserved : goal.loop-listed-preserved
-loop-listed-preserved c =
-    (
-      beyond_then c.loop-listed.invariant.0 c.advance-moved.ensures.beyond,
-      λ m C ss S F. let Q = c.loop-listed.invariant.1 m C ss S F in
-          let S' = progress-shown Q _ _ ((standing c.requires.ground).places ∙ sym C.ground.places) (roll_count c.requires.roll) in
-          progress-walked Q c.loop-listed-test.true (omega (arith, roll_count c.requires.roll, c.requires.place_lt_places.1)) _ (made (goal.at.loop-listed-preserved c).After-advance-moved _ c.in-Refined.is m C _ S'),
-    )
+loop-listed-preserved c = (
+  beyond_then c.loop-listed.invariant.0 c.advance-moved.ensures.beyond,
+  λ m C ss S F. let Q = c.loop-listed.invariant.1 m C ss S F in
+      let S' = progress-shown Q _ _ ((standing c.requires.ground).places ∙ sym C.ground.places) (roll_count c.requires.roll) in
+      progress-walked Q c.loop-listed-test.true (omega (arith, roll_count c.requires.roll, c.requires.place_lt_places.1)) _ (made (goal.at.loop-listed-preserved c).After-advance-moved _ c.in-Refined.is m C _ S'),
+)
 
 pub returns-in-Refused : goal.returns-in-Refused
 returns-in-Refused c =
-    record { beyond = beyond_then c.loop-listed.invariant.0 c.advance-moved.ensures.beyond; came = (λ m C ss S F. let Q = c.loop-listed.invariant.1 m C ss S F in
+    record {
+      beyond = beyond_then c.loop-listed.invariant.0 c.advance-moved.ensures.beyond;
+      came = (λ m C ss S F. let Q = c.loop-listed.invariant.1 m C ss S F in
           let S' = progress-shown Q _ _ ((standing c.requires.ground).places ∙ sym C.ground.places) (roll_count c.requires.roll) in
-          progress-refused Q c.loop-listed-test.true (omega (arith, roll_count c.requires.roll, c.requires.place_lt_places.1)) _ (made (goal.at.returns-in-Refused c).After-advance-moved _ c.in-Refused.is m C _ S')) }
+          progress-refused Q c.loop-listed-test.true (omega (arith, roll_count c.requires.roll, c.requires.place_lt_places.1)) _ (made (goal.at.returns-in-Refused c).After-advance-moved _ c.in-Refused.is m C _ S'));
+    }
 
 pub returns : goal.returns
 returns c = record { beyond = c.loop-listed.invariant.0; came = λ m C ss S F. progress_done (c.loop-listed.invariant.1 m C ss S F) c.loop-listed-test.false c.requires.place_lt_places.2 }

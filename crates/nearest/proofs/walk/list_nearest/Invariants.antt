@@ -1,25 +1,14 @@
 -- `nearest::walk::list_nearest` meets its contract. The invariant: on any map that has the ground and the book, the listing is under way.
-use mathlib.Core.Path.{◌≡◌, refl, sym, subst, ◌∙◌}
 use mathlib.Core.List.{List}
-use Prim.Native.Nat.{ℕ, ◌+◌, ◌-◌, ◌*◌, ◌≤◌, ◌<◌}
-use native.Mathlib.Omega.{arith}
-use lib.ListN.{length}
-use Rattle.paper.specs.Sizes.{slot_words, most_offices, most_places}
+use Prim.Native.Nat.{◌+◌, ◌-◌, ◌*◌}
+use Rattle.paper.specs.Sizes.{slot_words}
 use Rattle.paper.specs.Map.{Map}
-use Rattle.paper.specs.Sheet.{offices_in}
-use Rattle.paper.specs.Listing.{Slot, State, begin, run, enough}
+use Rattle.paper.specs.Listing.{Slot, begin, run, enough}
 use Rattle.sheet.specs.Ground.{Charted}
-use Rattle.sheet.proofs.Grounds.{roll_count}
-use Rattle.quadtree.proofs.Words.{standing}
-use Rattle.paper.specs.declared.Trail.{Trail}
-use Rattle.nearest.specs.declared.walk.Moved.{Moved}
-use Rattle.nearest.specs.declared.walk.Moved.TheVariants as moved
 use Rattle.nearest.specs.Question.{quest_on}
 use Rattle.nearest.specs.Working.{Shown, Beyond}
-use Rattle.nearest.specs.Going.{Fresh, Waiting, Stepped}
-use Rattle.nearest.proofs.Advance.{shown_as}
-use Rattle.nearest.proofs.Take.{beyond_then, beyond_same}
-use Rattle.nearest.proofs.Progress.{Progress, progress_begin, progress_long, progress-shown, progress-waits, progress-most, progress-small, progress-listed, progress-walked, progress-refused, progress_done}
+use Rattle.nearest.specs.Going.{Fresh}
+use Rattle.nearest.proofs.Progress.{Progress}
 use Rattle.nearest.proofs.walk.list_nearest.Given as goal
 
 abbrev pub invariant-loop-listed : goal.invariant-loop-listed

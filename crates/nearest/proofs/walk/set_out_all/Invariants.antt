@@ -1,13 +1,10 @@
 -- `nearest::walk::set_out_all` meets its contract.
 use Prim.Native.Nat.{◌-◌, ◌*◌, ◌≤◌}
-use native.Mathlib.Omega.{arith}
 use Rattle.paper.specs.Sizes.{slot_words}
 use Rattle.paper.specs.Sheet.{map_of}
-use Rattle.sheet.proofs.Grounds.{roll_count}
 use Rattle.nearest.specs.Working.{Beyond}
 use Rattle.nearest.specs.Question.{quest_on}
-use Rattle.nearest.proofs.Take.{beyond_then, beyond_same}
-use Rattle.nearest.proofs.Begun.{Prefix, prefix_none, prefix_next, prefix-refused, built_beyond, started_all}
+use Rattle.nearest.proofs.Begun.{Prefix}
 use Rattle.nearest.proofs.walk.set_out_all.Given as goal
 
 abbrev pub invariant-loop-i : goal.invariant-loop-i
