@@ -44,7 +44,13 @@ returns-then-number-ne0 c =
     ∙ ask_invalid _ _ _ (roll_count c.requires.roll) _ _ _ _ _ _ (tested (goal.at.returns-then-number-ne0 c).After-invalid-number) c.if-number-ne0.true
 
 pub walk_mapped-ended-requires : goal.walk_mapped-ended-requires
-walk_mapped-ended-requires c = let A = allowed (goal.at.walk_mapped-ended-requires c).Else-number-ne0 in record { mapped = c.requires.mapped; roll = (c.requires.roll, omega (arith, A.place, c.requires.mapped.parts.places), A.one, omega (arith, A.enough, roll_count c.requires.roll), A.answers, works (goal.at.walk_mapped-ended-requires c).Else-number-ne0) }
+walk_mapped-ended-requires c =
+    let w = (goal.at.walk_mapped-ended-requires c).Else-number-ne0 in
+    let A = allowed w in
+    record {
+      mapped = c.requires.mapped;
+      roll = (c.requires.roll, omega (arith, A.place, c.requires.mapped.parts.places), A.one, omega (arith, A.enough, roll_count c.requires.roll), A.answers, works w);
+    }
 
 pub overflow_mul-counts : goal.overflow_mul-counts
 overflow_mul-counts c = omega (arith, c.requires.roll.few)

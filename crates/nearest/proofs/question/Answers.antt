@@ -40,14 +40,30 @@ pub slice_bounds-ask-end : goal.slice_bounds-ask-end
 slice_bounds-ask-end c = let (e, n) = out (goal.at.slice_bounds-ask-end c).In-Out in omega (arith, c.list_at-at.ensures, offices_end _ _ (sectioned _ _ e n))
 
 pub ask-requires : goal.ask-requires
-ask-requires c = let (e, n) = out (goal.at.ask-requires c).In-Out in record { mapped = laid_mapped _ _ e n; roll = subst (λ (l : List ℕ). Roll l c.in-Out.counts.offices c.in-Out.counts.places) (sym (list (goal.at.ask-requires c).After-list_at-at)) (laid_roll _ _ e n) }
+ask-requires c = let (e, n) = out (goal.at.ask-requires c).In-Out in
+    record {
+      mapped = laid_mapped _ _ e n;
+      roll = subst (λ (l : List ℕ). Roll l c.in-Out.counts.offices c.in-Out.counts.places) (sym (list (goal.at.ask-requires c).After-list_at-at)) (laid_roll _ _ e n);
+    }
 
 pub returns-in-Out : goal.returns-in-Out
 returns-in-Out c =
+    let b = (goal.at.returns-in-Out c).After-layout-laid in
     let (e, n) = out (goal.at.returns-in-Out c).In-Out in
-    let rules = c.ask.ensures ∙ laid_reply _ c.args.q c.args.k c.args.direction _ _ _ e (ap offices_in (list (goal.at.returns-in-Out c).After-list_at-at) ∙ list_offices _ _ (sectioned _ _ e n)) in record { rules = rules; nearest = lists_nearest _ _ _ _ _ _ (bytes (goal.at.returns-in-Out c).After-layout-laid) _ rules; thrifty = refines_thriftily _ _ _ _ _ _ (bytes (goal.at.returns-in-Out c).After-layout-laid) _ rules }
+    let rules = c.ask.ensures ∙ laid_reply _ c.args.q c.args.k c.args.direction _ _ _ e (ap offices_in (list (goal.at.returns-in-Out c).After-list_at-at) ∙ list_offices _ _ (sectioned _ _ e n)) in
+    record {
+      rules = rules;
+      nearest = lists_nearest _ _ _ _ _ _ (bytes b) _ rules;
+      thrifty = refines_thriftily _ _ _ _ _ _ (bytes b) _ rules;
+    }
 
 pub returns-in-Refused : goal.returns-in-Refused
 returns-in-Refused c =
+    let b = (goal.at.returns-in-Refused c).After-layout-laid in
     let rules = ap (λ (r : code.Reply). replied r c.args.answer.now c.args.working.now) c.refused.ensures
-    ∙ laid_refused _ c.args.q c.args.k c.args.direction _ _ _ (sym c.in-Refused.is ∙ c.layout-laid.ensures) in record { rules = rules; nearest = lists_nearest _ _ _ _ _ _ (bytes (goal.at.returns-in-Refused c).After-layout-laid) _ rules; thrifty = refines_thriftily _ _ _ _ _ _ (bytes (goal.at.returns-in-Refused c).After-layout-laid) _ rules }
+    ∙ laid_refused _ c.args.q c.args.k c.args.direction _ _ _ (sym c.in-Refused.is ∙ c.layout-laid.ensures) in
+    record {
+      rules = rules;
+      nearest = lists_nearest _ _ _ _ _ _ (bytes b) _ rules;
+      thrifty = refines_thriftily _ _ _ _ _ _ (bytes b) _ rules;
+    }

@@ -14,7 +14,12 @@ pub road_book-requires : goal.road_book-requires
 road_book-requires c = record { mapped = c.requires.mapped; roomy = (zeros_roomy _ (room _ _ c.requires.mapped.parts).within).0 }
 
 pub walk-requires : goal.walk-requires
-walk-requires c = record { ground = mapped_ground c.requires.mapped; chart = record { map = _; charted = charted (goal.at.walk-requires c).After-road_book }; roll = c.requires.roll.0; place_lt_places = let r = c.requires.roll in (r.1, r.2, r.3, r.4, r.5) }
+walk-requires c = record {
+  ground = mapped_ground c.requires.mapped;
+  chart = record { map = _; charted = charted (goal.at.walk-requires c).After-road_book };
+  roll = c.requires.roll.0;
+  place_lt_places = let r = c.requires.roll in (r.1, r.2, r.3, r.4, r.5);
+}
 
 pub returns : goal.returns
 returns c = record { beyond = c.walk.ensures.beyond; came = c.walk.ensures.came _ (charted (goal.at.returns c).After-road_book) }

@@ -48,21 +48,32 @@ pub take_leader-lead-requires : goal.take_leader-lead-requires
 take_leader-lead-requires c = record { places = _; waiting = c.requires.place_lt_places.1 }
 
 pub returns-then-lead : goal.returns-then-lead
-returns-then-lead c = record { beyond = c.take_leader-lead.ensures.beyond; stepped = (λ m C st S. advance_listed _ _ _ _ (places (goal.at.returns-then-lead c).After-take_leader-lead m C) (roll_count c.requires.roll) st _ _ (c.take_leader-lead.ensures.by_index _ _ S) c.if-lead.true) }
+returns-then-lead c = record {
+  beyond = c.take_leader-lead.ensures.beyond;
+  stepped = λ m C st S. advance_listed _ _ _ _ (places (goal.at.returns-then-lead c).After-take_leader-lead m C) (roll_count c.requires.roll) st _ _ (c.take_leader-lead.ensures.by_index _ _ S) c.if-lead.true;
+}
 
 pub next_trail-next-requires : goal.next_trail-next-requires
-next_trail-next-requires c = record { ground = c.requires.ground; chart = c.requires.chart; roll = c.requires.roll; place_lt_places = (c.requires.place_lt_places.0, (waiting (goal.at.next_trail-next-requires c).After-take_leader-lead).here, (waiting (goal.at.next_trail-next-requires c).After-take_leader-lead).sane) }
+next_trail-next-requires c =
+    let b = (goal.at.next_trail-next-requires c).After-take_leader-lead in
+    record {
+      ground = c.requires.ground;
+      chart = c.requires.chart;
+      roll = c.requires.roll;
+      place_lt_places = (c.requires.place_lt_places.0, (waiting b).here, (waiting b).sane);
+    }
 
 pub put_back-requires : goal.put_back-requires
 put_back-requires c = one_out (waiting (goal.at.put_back-requires c).After-take_leader-lead) _ (sane (goal.at.put_back-requires c).In-To)
 
 pub returns-in-To : goal.returns-in-To
 returns-in-To c =
+    let w = (goal.at.returns-in-To c).In-To in
     record {
       beyond = beyond_then c.take_leader-lead.ensures.beyond c.put_back.ensures.beyond;
       stepped = (λ m C st S. let L = c.take_leader-lead.ensures.by_index _ _ S in
-          advance-walked _ _ _ _ (places (goal.at.returns-in-To c).After-take_leader-lead m C) (roll_count c.requires.roll) st _ _ L c.if-lead.false _ refl _ (refined (goal.at.returns-in-To c).In-To m C) _
-          (c.put_back.ensures.by_index _ st.slots L.shown (sane (goal.at.returns-in-To c).In-To)));
+          advance-walked _ _ _ _ (places (goal.at.returns-in-To c).After-take_leader-lead m C) (roll_count c.requires.roll) st _ _ L c.if-lead.false _ refl _ (refined w m C) _
+          (c.put_back.ensures.by_index _ st.slots L.shown (sane w)));
     }
 
 pub returns-in-Refused : goal.returns-in-Refused

@@ -60,10 +60,19 @@ pub loop-listed-init : goal.loop-listed-init
 loop-listed-init c = (beyond_same _ _, λ m C ss S F. progress_begin _ _ _ ss _ _ (shown_as ((standing c.requires.ground).places ∙ sym C.ground.places) (roll_count c.requires.roll) S) (subst (λ (n : ℕ). Fresh n ss) (roll_count c.requires.roll) F))
 
 pub advance-moved-requires : goal.advance-moved-requires
-advance-moved-requires c = record { ground = c.requires.ground; chart = c.requires.chart; roll = c.requires.roll; place_lt_places = (c.requires.place_lt_places.0, (under (goal.at.advance-moved-requires c).At-loop-listed).waits c.loop-listed-test.true) }
+advance-moved-requires c = record {
+  ground = c.requires.ground;
+  chart = c.requires.chart;
+  roll = c.requires.roll;
+  place_lt_places = (c.requires.place_lt_places.0, (under (goal.at.advance-moved-requires c).At-loop-listed).waits c.loop-listed-test.true);
+}
 
 pub list_office-requires : goal.list_office-requires
-list_office-requires c = record { ground = c.requires.ground; roll = c.requires.roll; i_lt_offices = (one_of (goal.at.list_office-requires c).After-advance-moved _ _ c.in-Listed.is, omega (arith, (under (goal.at.list_office-requires c).At-loop-listed).long, c.loop-listed-test.true, c.requires.place_lt_places.2)) }
+list_office-requires c = record {
+  ground = c.requires.ground;
+  roll = c.requires.roll;
+  i_lt_offices = (one_of (goal.at.list_office-requires c).After-advance-moved _ _ c.in-Listed.is, omega (arith, (under (goal.at.list_office-requires c).At-loop-listed).long, c.loop-listed-test.true, c.requires.place_lt_places.2));
+}
 
 pub overflow_add-listed : goal.overflow_add-listed
 overflow_add-listed c =
@@ -104,4 +113,7 @@ returns-in-Refused c =
     }
 
 pub returns : goal.returns
-returns c = record { beyond = c.loop-listed.invariant.0; came = λ m C ss S F. progress_done (c.loop-listed.invariant.1 m C ss S F) c.loop-listed-test.false c.requires.place_lt_places.2 }
+returns c = record {
+  beyond = c.loop-listed.invariant.0;
+  came = λ m C ss S F. progress_done (c.loop-listed.invariant.1 m C ss S F) c.loop-listed-test.false c.requires.place_lt_places.2;
+}

@@ -18,7 +18,11 @@ pub stand-place-requires : goal.stand-place-requires
 stand-place-requires c = roll_room c.requires.roll _ c.requires.place_lt_places.1
 
 pub refine-requires : goal.refine-requires
-refine-requires c = record { ground = c.requires.ground; chart = c.requires.chart; v_lt_places = (omega (arith, to (goal.at.refine-requires c).After-by_direction-sought, quest_to c.requires.roll c.args.quest c.requires.place_lt_places.0 _ c.requires.place_lt_places.1), c.requires.place_lt_places.2) }
+refine-requires c = record {
+  ground = c.requires.ground;
+  chart = c.requires.chart;
+  v_lt_places = (omega (arith, to (goal.at.refine-requires c).After-by_direction-sought, quest_to c.requires.roll c.args.quest c.requires.place_lt_places.0 _ c.requires.place_lt_places.1), c.requires.place_lt_places.2);
+}
 
 pub returns : goal.returns
 returns c m C = rw (sym (to (goal.at.returns c).After-by_direction-sought)) (c.refine.ensures m C)

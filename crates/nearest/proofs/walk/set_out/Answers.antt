@@ -39,18 +39,28 @@ started : (c : In-To) → start (map_of c.args.ground.now) ((quest_on c.args.lis
 started c = step_to _ _ (sym c.in-To.is ∙ c.first_trail-first.ensures)
 
 pub first_trail-first-requires : goal.first_trail-first-requires
-first_trail-first-requires c = record { ground = c.requires.ground; roll = c.requires.roll; place_lt_places = (c.requires.place_lt_places.0, c.requires.place_lt_places.1) }
+first_trail-first-requires c = record {
+  ground = c.requires.ground;
+  roll = c.requires.roll;
+  place_lt_places = (c.requires.place_lt_places.0, c.requires.place_lt_places.1);
+}
 
 pub store-requires : goal.store-requires
 store-requires c = omega (arith, c.requires.place_lt_places)
 
 pub key-requires : goal.key-requires
 key-requires c =
-    let S = start_sane (rules (goal.at.key-requires c).After-first_trail-first) _ _ _ (from (goal.at.key-requires c).After-first_trail-first) (to (goal.at.key-requires c).After-first_trail-first) (started (goal.at.key-requires c).In-To) in
+    let b = (goal.at.key-requires c).After-first_trail-first in
+    let S = start_sane (rules b) _ _ _ (from b) (to b) (started (goal.at.key-requires c).In-To) in
     (omega (arith, S.ordered, S.high), omega (arith, c.requires.place_lt_places.1, c.requires.roll.few))
 
 pub returns-in-To : goal.returns-in-To
-returns-in-To c = record { beyond = beyond_then (stored_beyond c.store.ensures _ c.requires.place_lt_places.1) (beyond_set _ _ _ _ (omega (arith, c.requires.place_lt_places.1))); one_started = (started_now (rules (goal.at.returns-in-To c).After-first_trail-first) _ _ _ _ _ _ _ _ _ (from (goal.at.returns-in-To c).After-first_trail-first) (to (goal.at.returns-in-To c).After-first_trail-first) refl refl (started (goal.at.returns-in-To c).In-To) c.store.ensures (omega (arith, roll_count c.requires.roll)) c.key.ensures) }
+returns-in-To c =
+    let b = (goal.at.returns-in-To c).After-first_trail-first in
+    record {
+      beyond = beyond_then (stored_beyond c.store.ensures _ c.requires.place_lt_places.1) (beyond_set _ _ _ _ (omega (arith, c.requires.place_lt_places.1)));
+      one_started = started_now (rules b) _ _ _ _ _ _ _ _ _ (from b) (to b) refl refl (started (goal.at.returns-in-To c).In-To) c.store.ensures (omega (arith, roll_count c.requires.roll)) c.key.ensures;
+    }
 
 pub returns-in-Refused : goal.returns-in-Refused
 returns-in-Refused c = record { beyond = beyond_same _ _; one_started = step_no _ _ (sym c.in-Refused.is ∙ c.first_trail-first.ensures) }

@@ -9,10 +9,17 @@ pub loop-i-init : goal.loop-i-init
 loop-i-init c = (omega arith, beyond_same _ _, prefix_none _ _ _)
 
 pub set_out-begun-requires : goal.set_out-begun-requires
-set_out-begun-requires c = record { ground = c.requires.ground; roll = c.requires.roll; place_lt_places = (c.requires.place_lt_places.0, c.loop-i-test.true, omega (arith, c.requires.place_lt_places.2, c.loop-i.invariant.1.long)) }
+set_out-begun-requires c = record {
+  ground = c.requires.ground;
+  roll = c.requires.roll;
+  place_lt_places = (c.requires.place_lt_places.0, c.loop-i-test.true, omega (arith, c.requires.place_lt_places.2, c.loop-i.invariant.1.long));
+}
 
 pub returns-in-Refused : goal.returns-in-Refused
-returns-in-Refused c = record { beyond = beyond_then c.loop-i.invariant.1 c.set_out-begun.ensures.beyond; all_started = (prefix-refused _ _ c.loop-i.invariant.2 (omega (arith, roll_count c.requires.roll, c.loop-i-test.true)) _ (rw c.in-Refused.is at c.set_out-begun.ensures.one_started)) }
+returns-in-Refused c = record {
+  beyond = beyond_then c.loop-i.invariant.1 c.set_out-begun.ensures.beyond;
+  all_started = prefix-refused _ _ c.loop-i.invariant.2 (omega (arith, roll_count c.requires.roll, c.loop-i-test.true)) _ (rw c.in-Refused.is at c.set_out-begun.ensures.one_started);
+}
 
 pub loop-i-preserved : goal.loop-i-preserved
 loop-i-preserved c =
@@ -27,4 +34,7 @@ build-requires c =
     record { some = c.requires.place_lt_places.1; ends = omega (arith, c.requires.place_lt_places.2, c.loop-i.invariant.1.long) }
 
 pub returns : goal.returns
-returns c = record { beyond = beyond_then c.loop-i.invariant.1 (built_beyond _ _ _ c.build.ensures.same); all_started = (started_all _ _ _ _ _ (roll_count c.requires.roll) (omega arith) c.loop-i.invariant.2 c.requires.roll.few (omega (arith, c.requires.place_lt_places.2, c.loop-i.invariant.1.long)) _ c.build.ensures.same c.build.ensures.played) }
+returns c = record {
+  beyond = beyond_then c.loop-i.invariant.1 (built_beyond _ _ _ c.build.ensures.same);
+  all_started = started_all _ _ _ _ _ (roll_count c.requires.roll) (omega arith) c.loop-i.invariant.2 c.requires.roll.few (omega (arith, c.requires.place_lt_places.2, c.loop-i.invariant.1.long)) _ c.build.ensures.same c.build.ensures.played;
+}

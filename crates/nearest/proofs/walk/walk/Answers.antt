@@ -52,16 +52,38 @@ module _ (c : After-set_out_all-begun) where
   }
 
 pub set_out_all-begun-requires : goal.set_out_all-begun-requires
-set_out_all-begun-requires c = record { ground = c.requires.ground; roll = c.requires.roll; place_lt_places = (c.requires.place_lt_places.0, omega (arith, c.requires.place_lt_places), c.requires.place_lt_places.4) }
+set_out_all-begun-requires c = record {
+  ground = c.requires.ground;
+  roll = c.requires.roll;
+  place_lt_places = (c.requires.place_lt_places.0, omega (arith, c.requires.place_lt_places), c.requires.place_lt_places.4);
+}
 
 pub returns-in-Refused : goal.returns-in-Refused
-returns-in-Refused c = record { beyond = c.set_out_all-begun.ensures.beyond; came = λ m C. (listing_refused _ _ _ _ (same (goal.at.returns-in-Refused c).After-set_out_all-begun m C ∙ out (goal.at.returns-in-Refused c).After-set_out_all-begun _ c.in-Refused.is), beyond_same _ _) }
+returns-in-Refused c =
+    let b = (goal.at.returns-in-Refused c).After-set_out_all-begun in
+    record {
+      beyond = c.set_out_all-begun.ensures.beyond;
+      came = λ m C. (listing_refused _ _ _ _ (same b m C ∙ out b _ c.in-Refused.is), beyond_same _ _);
+    }
 
 pub list_nearest-requires : goal.list_nearest-requires
-list_nearest-requires c = record { ground = c.requires.ground; chart = c.requires.chart; roll = c.requires.roll; begun = begun (goal.at.list_nearest-requires c).After-set_out_all-begun (out (goal.at.list_nearest-requires c).After-set_out_all-begun _ c.in_default.is); place_lt_places = (c.requires.place_lt_places.0, c.requires.place_lt_places.2, c.requires.place_lt_places.3) }
+list_nearest-requires c =
+    let b = (goal.at.list_nearest-requires c).After-set_out_all-begun in
+    record {
+      ground = c.requires.ground;
+      chart = c.requires.chart;
+      roll = c.requires.roll;
+      begun = begun b (out b _ c.in_default.is);
+      place_lt_places = (c.requires.place_lt_places.0, c.requires.place_lt_places.2, c.requires.place_lt_places.3);
+    }
 
 pub returns : goal.returns
 unfolding begun
 returns c =
-    let A = out (goal.at.returns c).After-set_out_all-begun _ c.in_default.is in
-    let B = begun (goal.at.returns c).After-set_out_all-begun A in record { beyond = beyond_then c.set_out_all-begun.ensures.beyond c.list_nearest.ensures.beyond; came = (λ m C. came_listing c.args.k c.args.answer.now c.list_nearest.new.answer c.list_nearest.result (listing_started m _ c.args.k _ (same (goal.at.returns c).After-set_out_all-begun m C ∙ A.starts)) (c.list_nearest.ensures.came m C _ B.shown B.fresh)) }
+    let b = (goal.at.returns c).After-set_out_all-begun in
+    let A = out b _ c.in_default.is in
+    let B = begun b A in
+    record {
+      beyond = beyond_then c.set_out_all-begun.ensures.beyond c.list_nearest.ensures.beyond;
+      came = λ m C. came_listing c.args.k c.args.answer.now c.list_nearest.new.answer c.list_nearest.result (listing_started m _ c.args.k _ (same b m C ∙ A.starts)) (c.list_nearest.ensures.came m C _ B.shown B.fresh);
+    }
