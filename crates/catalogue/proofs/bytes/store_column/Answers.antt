@@ -1,0 +1,39 @@
+-- `catalogue::bytes::store_column` meets its contract. The invariant is `StoringIn`: the first u words of the column are stored.
+use Prim.Native.Nat.{◌+◌, ◌*◌, ◌≤◌, ◌<◌}
+use native.Mathlib.Omega.{arith}
+use mathlib.Core.Path.{refl, ◌∙◌}
+use lib.ListN.{length}
+use Rattle.paper.specs.Sizes.{word_bytes}
+use Rattle.text.proofs.Put.{put_length}
+use Rattle.truth.proofs.Area.{in_area}
+use Rattle.catalogue.proofs.Columned.{storing_in_none, storing_in_more, storing_in_all}
+use Rattle.catalogue.proofs.bytes.store_column.Goals.{In-loop-u}
+use Rattle.catalogue.proofs.bytes.store_column.Goals as goal
+
+-- the word of u and v is in the slice
+room : (c : In-loop-u) → let l = c.loop-u in let a = c.args in
+    (l.u * a.n + a.v < a.n * a.n) × (word_bytes * (l.u * a.n + a.v) + word_bytes ≤ length l.bytes)
+room c =
+    let inside = in_area c.args.n c.loop-u.u c.args.v c.loop-u-test.true c.requires.0 in
+    (inside, omega (arith, inside, c.loop-u.invariant.1, c.requires.2))
+
+pub loop-u-init : goal.loop-u-init
+loop-u-init c = (omega arith, refl, λ words b p q e. storing_in_none _ _ _ words b _ e)
+
+pub overflow_mul-u : goal.overflow_mul-u
+overflow_mul-u c = omega (arith, room (goal.at.overflow_mul-u c).In-loop-u)
+
+pub overflow_add-u : goal.overflow_add-u
+overflow_add-u c = omega (arith, room (goal.at.overflow_add-u c).In-loop-u)
+
+pub overflow_mul-u-in-loop-u : goal.overflow_mul-u-in-loop-u
+overflow_mul-u-in-loop-u c = omega (arith, room (goal.at.overflow_mul-u-in-loop-u c).In-loop-u)
+
+pub put_word-requires : goal.put_word-requires
+put_word-requires c = omega (arith, (room (goal.at.put_word-requires c).In-loop-u).1)
+
+pub loop-u-preserved : goal.loop-u-preserved
+loop-u-preserved c = (omega (arith, c.loop-u-test.true), put_length c.put_word.ensures ∙ c.loop-u.invariant.1, λ words base h k e. storing_in_more _ c.requires.0 c.loop-u-test.true h (c.loop-u.invariant.2 words base h k e) c.put_word.ensures)
+
+pub returns : goal.returns
+returns c words b p q e = storing_in_all c.loop-u-test.false (c.loop-u.invariant.2 words b p q e)
