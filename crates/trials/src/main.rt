@@ -6,13 +6,13 @@ mod marked;
 
 use crate::loops::LOOPS;
 use crate::marked::MARKED;
-use libc::STDOUT_FILENO;
 use nearest::question;
 use paper::sizes::{
     BLOCK_WORDS, INWARD, LINE_WORDS, OFFICE_WORDS, OUTWARD, PLACE_WORDS, SLOT_WORDS, STAGE_WORDS,
     WORD_BYTES,
 };
 use sheet::{Laid, layout};
+use std::io;
 use truth::check;
 
 // How many places, stages, blocks and offices the marked sheet has.
@@ -109,141 +109,162 @@ fn without_last_block() -> [u8; SHORT_BYTES] {
     bytes
 }
 
-fn say(text: &[u8], number: u64) {
-    io::write_all(STDOUT_FILENO, text);
-    io::print_decimal(STDOUT_FILENO, number);
+fn say(rt: &impl Print, text: &str, number: u64) -> io::Result<()> {
+    print!(rt; "{text}{number}")
 }
 
-fn end_line() {
-    io::write_all(STDOUT_FILENO, b"\n");
+fn end_line(rt: &impl Print) -> io::Result<()> {
+    rt.println("")
 }
 
 // The number of the layout.
-fn laid(name: &[u8], sheet: &[u8]) {
+fn laid(rt: &impl Print, name: &str, sheet: &[u8]) -> io::Result<()> {
     let parts = layout(sheet);
     let number = match parts {
         Laid::Out(_) => 0,
         Laid::Refused(refusal) => refusal,
     };
-    say(name, number as u64);
-    end_line();
+    say(rt, name, number as u64)?;
+    end_line(rt)
 }
 
 // The number of the check.
-fn checked(name: &[u8], sheet: &[u8]) {
+fn checked(rt: &impl Print, name: &str, sheet: &[u8]) -> io::Result<()> {
     let mut distances = [0u32; PLACES * PLACES];
     let number = check(sheet, &mut distances);
-    say(name, number as u64);
-    end_line();
+    say(rt, name, number as u64)?;
+    end_line(rt)
 }
 
 // The words of so many answer lines.
-fn list(answer: &[u64], words: usize) {
+fn list(rt: &impl Print, answer: &[u64], words: usize) -> io::Result<()> {
     for i in 0..words {
         if i < answer.len() {
             if i % LINE_WORDS == 0 {
-                say(b"; ", answer[i]);
+                say(rt, "; ", answer[i])?;
             } else {
-                say(b" ", answer[i]);
+                say(rt, " ", answer[i])?;
             }
         }
     }
+    Ok(())
 }
 
 // A question's number, counts and list.
-fn asked(name: &[u8], sheet: &[u8], q: u32, k: u32, direction: u32) {
+fn asked(
+    rt: &impl Print,
+    name: &str,
+    sheet: &[u8],
+    q: u32,
+    k: u32,
+    direction: u32,
+) -> io::Result<()> {
     let mut answer = [0u64; LINE_WORDS * OFFICES];
     let mut working = [0u64; SLOT_WORDS * OFFICES];
     let reply = question(sheet, q, k, direction, &mut answer, &mut working);
     let count = reply.count;
-    say(name, reply.number as u64);
-    say(b", ", count as u64);
-    say(b" listed, refinements ", reply.refinements);
-    list(&answer, LINE_WORDS * count as usize);
-    end_line();
+    say(rt, name, reply.number as u64)?;
+    say(rt, ", ", count as u64)?;
+    say(rt, " listed, refinements ", reply.refinements)?;
+    list(rt, &answer, LINE_WORDS * count as usize)?;
+    end_line(rt)
 }
 
-fn outward_questions() {
+fn outward_questions(rt: &impl Print) -> io::Result<()> {
     let marked = with_word(0, PLACES as u32);
-    asked(b"q = 2, k = 1: ", &marked, 2, 1, OUTWARD);
-    asked(b"q = 2, k = 2: ", &marked, 2, 2, OUTWARD);
-    asked(b"q = 2, k = 3: ", &marked, 2, 3, OUTWARD);
-    asked(b"q = 2, k = 0: ", &marked, 2, 0, OUTWARD);
-    asked(b"q = 2, k = 4: ", &marked, 2, 4, OUTWARD);
-    asked(b"q = 4, k = 2: ", &marked, 4, 2, OUTWARD);
-    asked(b"one office, q = 2, k = 1: ", &one_office(), 2, 1, OUTWARD);
+    asked(rt, "q = 2, k = 1: ", &marked, 2, 1, OUTWARD)?;
+    asked(rt, "q = 2, k = 2: ", &marked, 2, 2, OUTWARD)?;
+    asked(rt, "q = 2, k = 3: ", &marked, 2, 3, OUTWARD)?;
+    asked(rt, "q = 2, k = 0: ", &marked, 2, 0, OUTWARD)?;
+    asked(rt, "q = 2, k = 4: ", &marked, 2, 4, OUTWARD)?;
+    asked(rt, "q = 4, k = 2: ", &marked, 4, 2, OUTWARD)?;
+    asked(
+        rt,
+        "one office, q = 2, k = 1: ",
+        &one_office(),
+        2,
+        1,
+        OUTWARD,
+    )
 }
 
-fn inward_questions() {
+fn inward_questions(rt: &impl Print) -> io::Result<()> {
     let marked = with_word(0, PLACES as u32);
-    asked(b"inward, q = 2, k = 1: ", &marked, 2, 1, INWARD);
-    asked(b"inward, q = 2, k = 2: ", &marked, 2, 2, INWARD);
-    asked(b"inward, q = 2, k = 3: ", &marked, 2, 3, INWARD);
-    asked(b"inward, q = 2, k = 4: ", &marked, 2, 4, INWARD);
-    asked(b"inward, q = 4, k = 2: ", &marked, 4, 2, INWARD);
+    asked(rt, "inward, q = 2, k = 1: ", &marked, 2, 1, INWARD)?;
+    asked(rt, "inward, q = 2, k = 2: ", &marked, 2, 2, INWARD)?;
+    asked(rt, "inward, q = 2, k = 3: ", &marked, 2, 3, INWARD)?;
+    asked(rt, "inward, q = 2, k = 4: ", &marked, 2, 4, INWARD)?;
+    asked(rt, "inward, q = 4, k = 2: ", &marked, 4, 2, INWARD)
 }
 
-fn neither_questions() {
+fn neither_questions(rt: &impl Print) -> io::Result<()> {
     let marked = with_word(0, PLACES as u32);
-    asked(b"direction 2, q = 2, k = 2: ", &marked, 2, 2, 2);
-    asked(b"direction 2, q = 2, k = 0: ", &marked, 2, 0, 2);
+    asked(rt, "direction 2, q = 2, k = 2: ", &marked, 2, 2, 2)?;
+    asked(rt, "direction 2, q = 2, k = 0: ", &marked, 2, 0, 2)
 }
 
 // On one-way loops the two directions differ: the nearest to send to is the farthest to hear from.
-fn loop_questions() {
+fn loop_questions(rt: &impl Print) -> io::Result<()> {
     let loops = bytes_of(LOOPS);
-    checked(b"one-way loops: check ", &loops);
-    asked(b"one-way loops, q = 0, k = 3: ", &loops, 0, 3, OUTWARD);
+    checked(rt, "one-way loops: check ", &loops)?;
+    asked(rt, "one-way loops, q = 0, k = 3: ", &loops, 0, 3, OUTWARD)?;
     asked(
-        b"one-way loops, inward, q = 0, k = 3: ",
+        rt,
+        "one-way loops, inward, q = 0, k = 3: ",
         &loops,
         0,
         3,
         INWARD,
-    );
+    )
 }
 
-fn layouts() {
-    laid(b"x 1,023: layout ", &with_word(X_OF_PLACE_2, 1023));
-    laid(b"x 1,024: layout ", &with_word(X_OF_PLACE_2, 1024));
+fn layouts(rt: &impl Print) -> io::Result<()> {
+    laid(rt, "x 1,023: layout ", &with_word(X_OF_PLACE_2, 1023))?;
+    laid(rt, "x 1,024: layout ", &with_word(X_OF_PLACE_2, 1024))?;
     laid(
-        b"gazetteer number 0 of place 3: layout ",
+        rt,
+        "gazetteer number 0 of place 3: layout ",
         &with_word(GAZETTEER_OF_PLACE_3, 0),
-    );
+    )?;
     laid(
-        b"gazetteer number 101 of place 3, as of place 0: layout ",
+        rt,
+        "gazetteer number 101 of place 3, as of place 0: layout ",
         &with_word(GAZETTEER_OF_PLACE_3, 101),
-    );
+    )?;
     laid(
-        b"gazetteer number 4,294,967,295 of place 3: layout ",
+        rt,
+        "gazetteer number 4,294,967,295 of place 3: layout ",
         &with_word(GAZETTEER_OF_PLACE_3, 4_294_967_295),
-    );
+    )?;
     laid(
-        b"length 65,535: layout ",
+        rt,
+        "length 65,535: layout ",
         &with_word(LENGTH_OF_STAGE_0, 65535),
-    );
+    )?;
     laid(
-        b"length 65,536: layout ",
+        rt,
+        "length 65,536: layout ",
         &with_word(LENGTH_OF_STAGE_0, 65536),
-    );
-    laid(b"level 10: layout ", &with_word(LEVEL_OF_BLOCK_5, 10));
-    laid(b"level 11: layout ", &with_word(LEVEL_OF_BLOCK_5, 11));
+    )?;
+    laid(rt, "level 10: layout ", &with_word(LEVEL_OF_BLOCK_5, 10))?;
+    laid(rt, "level 11: layout ", &with_word(LEVEL_OF_BLOCK_5, 11))
 }
 
-fn checks() {
-    checked(b"the marked sheet: check ", &with_word(0, PLACES as u32));
+fn checks(rt: &impl Print) -> io::Result<()> {
+    checked(rt, "the marked sheet: check ", &with_word(0, PLACES as u32))?;
     checked(
-        b"low ratio 65 of place 2: check ",
+        rt,
+        "low ratio 65 of place 2: check ",
         &with_word(LOW_OF_BLOCK_5, 65),
-    );
-    checked(b"no block of place 3: check ", &without_last_block());
+    )?;
+    checked(rt, "no block of place 3: check ", &without_last_block())
 }
 
-fn main() {
-    outward_questions();
-    inward_questions();
-    neither_questions();
-    loop_questions();
-    layouts();
-    checks();
+fn main(rt: HostRuntime) -> io::Result<()> {
+    outward_questions(&rt)?;
+    inward_questions(&rt)?;
+    neither_questions(&rt)?;
+    loop_questions(&rt)?;
+    layouts(&rt)?;
+    checks(&rt)
 }
