@@ -73,6 +73,14 @@ pub fn list_at(counts: Counts) -> usize
     WORD_BYTES * (offices_at(counts) + 1)
 }
 
+// A refusal. The call is kept: in its callers' places each number would be a constant of the compiler's, and a handset has little room for constants.
+#[inline(never)]
+fn refused(number: u32) -> Laid
+    ensures { result ≡ Laid.Refused number }
+{
+    Laid::Refused(number)
+}
+
 // The rules that the records keep (3 to 6), where the sections are whole.
 fn records(sheet: &[u8], counts: Counts) -> Laid
     requires { Sectioned sheet.now counts }
@@ -80,17 +88,17 @@ fn records(sheet: &[u8], counts: Counts) -> Laid
 {
     let mut leaving = [0u32; MOST_PLACES];
     if !places::places_hold(sheet, counts) {
-        return Laid::Refused(3);
+        return refused(3);
     }
     if !stages::stages_hold(sheet, counts, &mut leaving) {
-        return Laid::Refused(4);
+        return refused(4);
     }
     if !blocks::blocks_hold(sheet, counts, &leaving) {
-        return Laid::Refused(5);
+        return refused(5);
     }
     let at = list_at(counts);
     if !offices::offices_hold(&sheet[at..], counts.places) {
-        return Laid::Refused(6);
+        return refused(6);
     }
     Laid::Out(counts)
 }
@@ -102,7 +110,7 @@ pub fn layout(sheet: &[u8]) -> Laid
     let parts = sections::sections(sheet);
     match parts {
         Laid::Out(counts) => records(sheet, counts),
-        Laid::Refused(number) => Laid::Refused(number),
+        Laid::Refused(number) => refused(number),
     }
 }
 

@@ -5,7 +5,7 @@ ghost use Rattle.paper.specs.Sheet.{word as word_of};
 ghost use Rattle.paper.specs.Layout.{section as sectionOf, sections as sectionsOf};
 ghost use Rattle.sheet.specs.Laid.{counted_by, laid_by};
 
-use crate::{Laid, word};
+use crate::{Laid, refused, word};
 use paper::Counts;
 use paper::sizes::{
     BLOCK_WORDS, MOST_BLOCKS, MOST_OFFICES, MOST_PLACES, MOST_STAGES, OFFICE_WORDS, PLACE_WORDS,
@@ -47,29 +47,29 @@ pub fn sections(sheet: &[u8]) -> Laid
     ensures { result ≡ laid_by sheet.now (sectionsOf sheet.now) }
 {
     if sheet.len() % WORD_BYTES != 0 {
-        return Laid::Refused(1);
+        return refused(1);
     }
     let places = match section(sheet, 0, 1, MOST_PLACES, PLACE_WORDS) {
         Counted::Records(n) => n,
-        Counted::Refused(d) => return Laid::Refused(d),
+        Counted::Refused(d) => return refused(d),
     };
     let stages_at = 1 + PLACE_WORDS * places;
     let stages = match section(sheet, stages_at, 0, MOST_STAGES, STAGE_WORDS) {
         Counted::Records(n) => n,
-        Counted::Refused(d) => return Laid::Refused(d),
+        Counted::Refused(d) => return refused(d),
     };
     let blocks_at = stages_at + 1 + STAGE_WORDS * stages;
     let blocks = match section(sheet, blocks_at, 0, MOST_BLOCKS, BLOCK_WORDS) {
         Counted::Records(n) => n,
-        Counted::Refused(d) => return Laid::Refused(d),
+        Counted::Refused(d) => return refused(d),
     };
     let offices_at = blocks_at + 1 + BLOCK_WORDS * blocks;
     let offices = match section(sheet, offices_at, 0, MOST_OFFICES, OFFICE_WORDS) {
         Counted::Records(n) => n,
-        Counted::Refused(d) => return Laid::Refused(d),
+        Counted::Refused(d) => return refused(d),
     };
     if offices_at + 1 + offices != sheet.len() / WORD_BYTES {
-        return Laid::Refused(1);
+        return refused(1);
     }
     Laid::Out(Counts {
         places,

@@ -7,4 +7,4 @@ pub records-requires : goal.records-requires
 records-requires c = sectioned_by _ _ (sym c.in-Out.is ∙ c.sections-parts.ensures)
 
 pub returns-in-Refused : goal.returns-in-Refused
-returns-in-Refused c = refused_early _ _ (sym c.in-Refused.is ∙ c.sections-parts.ensures)
+returns-in-Refused c = c.refused.ensures ∙ refused_early _ _ (sym c.in-Refused.is ∙ c.sections-parts.ensures)

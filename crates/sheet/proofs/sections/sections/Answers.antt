@@ -1,5 +1,6 @@
 -- `sheet::sections::sections` meets its contract: what is known where each section is passed, then each way out.
 use mathlib.Core.List.{List}
+use mathlib.Core.Path.{◌∙◌}
 use Prim.Native.Nat.{ℕ, ◌+◌, ◌*◌}
 use native.Mathlib.Nat.{one-mul}
 use native.Mathlib.Omega.{arith}
@@ -49,10 +50,10 @@ unfolding ends_at
 four c = simp one-mul at (past 0 most_offices office_words _ ((past 0 most_blocks block_words _ ((past 0 most_stages stage_words _ ((past 1 most_places place_words _ (words _ c.if-sheet-ne0.false) c.section.ensures _ c.in-Records.is)) c.section-2.ensures _ c.in-Records-section.is)) c.section-3.ensures _ c.in-Records-section-2.is)) c.section-4.ensures _ c.in-Records-section-3.is)
 
 pub returns-then-sheet-ne0 : goal.returns-then-sheet-ne0
-returns-then-sheet-ne0 c = no_words _ c.if-sheet-ne0.true
+returns-then-sheet-ne0 c = c.refused.ensures ∙ no_words _ c.if-sheet-ne0.true
 
 pub returns-in-Refused : goal.returns-in-Refused
-returns-in-Refused c = refused 1 most_places place_words _ (words _ c.if-sheet-ne0.false) c.section.ensures _ c.in-Refused.is
+returns-in-Refused c = c.refused-in-Refused.ensures ∙ refused 1 most_places place_words _ (words _ c.if-sheet-ne0.false) c.section.ensures _ c.in-Refused.is
 
 pub overflow_mul-stages_at : goal.overflow_mul-stages_at
 overflow_mul-stages_at c = omega (arith, one (goal.at.overflow_mul-stages_at c).In-Records)
@@ -61,7 +62,7 @@ pub overflow_add-stages_at : goal.overflow_add-stages_at
 overflow_add-stages_at c = omega (arith, one (goal.at.overflow_add-stages_at c).In-Records)
 
 pub returns-in-Refused-section : goal.returns-in-Refused-section
-returns-in-Refused-section c = refused 0 most_stages stage_words _ (one (goal.at.returns-in-Refused-section c).In-Records) c.section-2.ensures _ c.in-Refused-section.is
+returns-in-Refused-section c = c.refused-in-Refused-section.ensures ∙ refused 0 most_stages stage_words _ (one (goal.at.returns-in-Refused-section c).In-Records) c.section-2.ensures _ c.in-Refused-section.is
 
 pub overflow_add-blocks_at : goal.overflow_add-blocks_at
 overflow_add-blocks_at c = omega (arith, two (goal.at.overflow_add-blocks_at c).In-Records-section)
@@ -73,7 +74,7 @@ pub overflow_add-blocks_at-2 : goal.overflow_add-blocks_at-2
 overflow_add-blocks_at-2 c = omega (arith, two (goal.at.overflow_add-blocks_at-2 c).In-Records-section)
 
 pub returns-in-Refused-section-2 : goal.returns-in-Refused-section-2
-returns-in-Refused-section-2 c = refused 0 most_blocks block_words _ (two (goal.at.returns-in-Refused-section-2 c).In-Records-section) c.section-3.ensures _ c.in-Refused-section-2.is
+returns-in-Refused-section-2 c = c.refused-in-Refused-section-2.ensures ∙ refused 0 most_blocks block_words _ (two (goal.at.returns-in-Refused-section-2 c).In-Records-section) c.section-3.ensures _ c.in-Refused-section-2.is
 
 pub overflow_add-offices_at : goal.overflow_add-offices_at
 overflow_add-offices_at c = omega (arith, three (goal.at.overflow_add-offices_at c).In-Records-section-2)
@@ -85,7 +86,7 @@ pub overflow_add-offices_at-2 : goal.overflow_add-offices_at-2
 overflow_add-offices_at-2 c = omega (arith, three (goal.at.overflow_add-offices_at-2 c).In-Records-section-2)
 
 pub returns-in-Refused-section-3 : goal.returns-in-Refused-section-3
-returns-in-Refused-section-3 c = refused 0 most_offices office_words _ (three (goal.at.returns-in-Refused-section-3 c).In-Records-section-2) c.section-4.ensures _ c.in-Refused-section-3.is
+returns-in-Refused-section-3 c = c.refused-in-Refused-section-3.ensures ∙ refused 0 most_offices office_words _ (three (goal.at.returns-in-Refused-section-3 c).In-Records-section-2) c.section-4.ensures _ c.in-Refused-section-3.is
 
 pub overflow_add-offices_at-3 : goal.overflow_add-offices_at-3
 overflow_add-offices_at-3 c = omega (arith, four (goal.at.overflow_add-offices_at-3 c).In-Records-section-3)
@@ -94,7 +95,7 @@ pub overflow_add-offices_at-4 : goal.overflow_add-offices_at-4
 overflow_add-offices_at-4 c = omega (arith, four (goal.at.overflow_add-offices_at-4 c).In-Records-section-3)
 
 pub returns-then-offices_at-offices : goal.returns-then-offices_at-offices
-returns-then-offices_at-offices c = left_over (four (goal.at.returns-then-offices_at-offices c).In-Records-section-3) c.if-offices_at-offices.true
+returns-then-offices_at-offices c = c.refused-then-offices_at-offices.ensures ∙ left_over (four (goal.at.returns-then-offices_at-offices c).In-Records-section-3) c.if-offices_at-offices.true
 
 pub returns : goal.returns
 returns c = all_passed (one (goal.at.returns c).In-Records).at (two (goal.at.returns c).In-Records-section).at (three (goal.at.returns c).In-Records-section-2).at (four (goal.at.returns c).In-Records-section-3) c.if-offices_at-offices.false
