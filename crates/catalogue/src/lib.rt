@@ -1,4 +1,4 @@
-// The check and the question for the catalogue, a program in C: numbers and slices of bytes, every lent word as bytes, low byte first.
+// The check and the question for the catalogue, a program in C: numbers and slices of bytes, every lent word as bytes, low byte first. The crate catalogue_c exports them.
 #![tactic(auto)]
 
 mod answer;
@@ -20,8 +20,7 @@ use sheet::{Laid, layout, list_at};
 
 // 0 for a sheet that is laid out and tells the truth, and else the first of 1 to 6 and 10 to 15 that is due. After 0 and after 12 to 15
 // word u × N + v of the slice is the road distance from u to v; after 11 the first N × N words are 0; otherwise nothing is written.
-#[unsafe(no_mangle)]
-pub extern "C" fn atlas_check(sheet: &[u8], distances: &mut [u8]) -> u32
+pub fn atlas_check(sheet: &[u8], distances: &mut [u8]) -> u32
     ensures rules { HostChecked sheet.now distances.old result distances.new }
     ensures truth { word_bytes * area (map_of sheet.now) ≤ length distances.old → (result ≡ 0) ↔ Accepted sheet.now }
 {
@@ -35,8 +34,7 @@ pub extern "C" fn atlas_check(sheet: &[u8], distances: &mut [u8]) -> u32
 // 0 for a list of the k offices nearest by the road from the place q to them, or inward by the road from them to q, and else the first of 1 to 9 and 16 to
 // 18 that is due. The list is 5k words of 64 bits: number, low end, high end, stages walked and the gazetteer number of its place for each. The counts are two
 // more: how many are listed, and the refinements.
-#[unsafe(no_mangle)]
-pub extern "C" fn atlas_question(
+pub fn atlas_question(
     sheet: &[u8],
     q: u32,
     k: u32,
