@@ -2,6 +2,7 @@ pub mod Sizes
 pub mod Sum
 pub mod Test
 pub mod Served
+pub mod Refusal
 pub mod Order
 pub mod Slice
 pub mod Map

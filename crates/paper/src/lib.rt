@@ -1,9 +1,12 @@
 // The paper's kinds of number, and what several crates hand to each other.
 #![tactic(auto)]
 
+mod refusal;
 pub mod sizes;
 
 ghost use Rattle.std.specs.Prelude.{◌≡◌, ◌^◌, ◌<◌};
+
+pub use refusal::Refusal;
 
 // Spatial distance, as the crow flies: sizes::CROW_UNIT to a cell.
 #[derive(Clone, Copy)]
@@ -14,17 +17,21 @@ pub struct Spatial(pub u32);
 pub struct Network(pub u64);
 
 // A length as it stands in a word.
-pub fn furlongs(word: u32) -> Network
-    ensures { (result.0 ≡ word) × (word < 2 ^ 32) }
-{
-    Network(word as u64)
+impl From<u32> for Network {
+    ghost from_gives = { λ word length. (length.0 ≡ word) × (word < 2 ^ 32) };
+
+    fn from(word: u32) -> Network {
+        Network(u64::from(word))
+    }
 }
 
 // The same of a word of 64 bits.
-pub fn long_furlongs(word: u64) -> Network
-    ensures { result.0 ≡ word }
-{
-    Network(word)
+impl From<u64> for Network {
+    ghost from_gives = { λ word length. length.0 ≡ word };
+
+    fn from(word: u64) -> Network {
+        Network(word)
+    }
 }
 
 // Where a place lies: x and y are 0 to 1,023.
@@ -58,4 +65,11 @@ pub struct Trail {
 pub struct Quest {
     pub place: usize,
     pub direction: u32,
+}
+
+// What a question comes to that is not refused: how many offices are listed, and how many refinements were made.
+#[derive(Clone, Copy)]
+pub struct Listed {
+    pub count: u32,
+    pub refinements: u64,
 }
