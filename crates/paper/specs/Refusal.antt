@@ -30,7 +30,11 @@ abbrev pub number : {A : Type 0} → Result A Refusal → ℕ
 number (Ok a) = 0
 number (Err r) = number_of r
 
--- an outcome as the definitions have it, where f is what they call the values served
+-- an outcome as the definitions have it, and one whose value is f of what the code serves
+abbrev pub came : {A : Type 0} → Result A Refusal → Served A
+came (Ok a) = served a
+came (Err r) = refused (number_of r)
+
 abbrev pub served_as : {A B : Type 0} → (A → B) → Result A Refusal → Served B
 served_as f (Ok a) = served (f a)
 served_as f (Err r) = refused (number_of r)

@@ -8,13 +8,13 @@ use lib.Dec.{ltb}
 use lib.ListN.{length, get_or, replicate, length-replicate}
 use borrow.Author.Tests.{le-ltb}
 use Rattle.paper.specs.declared.Counts.{Counts}
+use Rattle.paper.specs.Served.{served, refused}
 use Rattle.paper.specs.Sizes.{most_places}
 use Rattle.paper.specs.Map.{Map, Offices}
 use Rattle.paper.specs.Test.{every}
 use Rattle.paper.specs.Sheet.{word, map_of, offices_in, offices_of}
 use Rattle.paper.specs.Layout.{sections, places_hold, stages_hold, blocks_hold, offices_hold, layout}
 use Rattle.paper.proofs.Test.{every_false}
-use Rattle.sheet.specs.declared.Laid.TheVariants.{Out, Refused}
 use Rattle.sheet.specs.Laid.{counts_of, laid_by, laid_of, Sectioned}
 use Rattle.sheet.specs.Records.{Zeros}
 use Rattle.sheet.proofs.Room.{out_by, refused_by}
@@ -39,31 +39,31 @@ fresh n h = record { long = omega (arith, length-replicate {A = ℕ} most_places
 
 -- what the sections come to
 module _ (s : List ℕ) where
-  pub sectioned_by : (c : Counts) → Out c ≡ laid_by s (sections s) → Sectioned s c
+  pub sectioned_by : (c : Counts) → served c ≡ laid_by s (sections s) → Sectioned s c
   sectioned_by c h = let (e, f) = out_by s c (sections s) h in record { whole = e; counts = f }
 
-  pub refused_early : (n : ℕ) → Refused n ≡ laid_by s (sections s) → Refused n ≡ laid_of s
+  pub refused_early : (n : ℕ) → refused n ≡ laid_by s (sections s) → refused n ≡ laid_of s
   unfolding laid_of layout
-  refused_early n h = let (d, e, f) = refused_by s n (sections s) h in rw f (ap Refused e)
+  refused_early n h = let (d, e, f) = refused_by s n (sections s) h in rw f (ap refused e)
 
 -- and then the records of each section
 module _ (s : List ℕ) (whole : sections s ≡ 0) where
-  pub refused_3 : places_hold (map_of s) ≡ false → Refused 3 ≡ laid_of s
+  pub refused_3 : places_hold (map_of s) ≡ false → refused 3 ≡ laid_of s
   unfolding laid_of layout
   refused_3 p = rw (whole, p)
 
-  pub refused_4 : places_hold (map_of s) ≡ true → stages_hold (map_of s) ≡ false → Refused 4 ≡ laid_of s
+  pub refused_4 : places_hold (map_of s) ≡ true → stages_hold (map_of s) ≡ false → refused 4 ≡ laid_of s
   unfolding laid_of layout
   refused_4 p t = rw (whole, p, t)
 
-  pub refused_5 : places_hold (map_of s) ≡ true → stages_hold (map_of s) ≡ true → blocks_hold (map_of s) ≡ false → Refused 5 ≡ laid_of s
+  pub refused_5 : places_hold (map_of s) ≡ true → stages_hold (map_of s) ≡ true → blocks_hold (map_of s) ≡ false → refused 5 ≡ laid_of s
   unfolding laid_of layout
   refused_5 p t b = rw (whole, p, t, b)
 
-  pub refused_6 : places_hold (map_of s) ≡ true → stages_hold (map_of s) ≡ true → blocks_hold (map_of s) ≡ true → offices_hold (map_of s) (offices_of s) ≡ false → Refused 6 ≡ laid_of s
+  pub refused_6 : places_hold (map_of s) ≡ true → stages_hold (map_of s) ≡ true → blocks_hold (map_of s) ≡ true → offices_hold (map_of s) (offices_of s) ≡ false → refused 6 ≡ laid_of s
   unfolding laid_of layout
   refused_6 p t b o = rw (whole, p, t, b, o)
 
-  pub laid_out : (c : Counts) → c ≡ counts_of s → places_hold (map_of s) ≡ true → stages_hold (map_of s) ≡ true → blocks_hold (map_of s) ≡ true → offices_hold (map_of s) (offices_of s) ≡ true → Out c ≡ laid_of s
+  pub laid_out : (c : Counts) → c ≡ counts_of s → places_hold (map_of s) ≡ true → stages_hold (map_of s) ≡ true → blocks_hold (map_of s) ≡ true → offices_hold (map_of s) (offices_of s) ≡ true → served c ≡ laid_of s
   unfolding laid_of layout
-  laid_out c e p t b o = rw (whole, p, t, b, o) (ap Out e)
+  laid_out c e p t b o = rw (whole, p, t, b, o) (ap served e)

@@ -5,11 +5,11 @@ use mathlib.Core.Path.{◌≡◌, refl, sym}
 use mathlib.Core.List.{List}
 use lib.ListN.{length}
 use Rattle.paper.specs.declared.Counts.{Counts}
+use Rattle.paper.specs.Served.{served, refused}
 use Rattle.paper.specs.Sizes.{place_words, stage_words, block_words, most_places, most_stages, most_blocks, most_offices}
 use Rattle.paper.specs.Sheet.{word, stages_at, blocks_at, offices_at, map_of, offices_of}
 use Rattle.paper.specs.Layout.{ends_at, layout}
 use Rattle.paper.proofs.Laid.{Stands, stands, Parts, parts, Whole, whole}
-use Rattle.sheet.specs.declared.Laid.TheVariants.{Out, Refused}
 use Rattle.sheet.specs.Laid.{counts_of, laid_by, laid_of, Sectioned, Within, stages_from, blocks_from, offices_from}
 use Rattle.sheet.specs.Ground.{Parted}
 
@@ -70,19 +70,19 @@ module _ (s : List ℕ) (c : Counts) (S : Sectioned s c) where
 
 -- what the counts tell, and what the number of a refusal tells
 module _ (s : List ℕ) where
-  pub out_by : (c : Counts) (d : ℕ) → Out c ≡ laid_by s d → (d ≡ 0) × (c ≡ counts_of s)
+  pub out_by : (c : Counts) (d : ℕ) → served c ≡ laid_by s d → (d ≡ 0) × (c ≡ counts_of s)
   out_by c zero h = (refl, cc)
   out_by c (suc d) h = let z : ◌≡◌ {A = ℕ} 0 1 = cc in absurd (omega arith)
 
-  pub refused_by : (n d : ℕ) → Refused n ≡ laid_by s d → (j : ℕ) × (n ≡ suc j) × (d ≡ suc j)
+  pub refused_by : (n d : ℕ) → refused n ≡ laid_by s d → (j : ℕ) × (n ≡ suc j) × (d ≡ suc j)
   refused_by n zero h = let z : ◌≡◌ {A = ℕ} 0 1 = cc in absurd (omega arith)
   refused_by n (suc d) h = (d, cc, refl)
 
-  pub laid_counts : (c : Counts) → Out c ≡ laid_of s → (layout s ≡ 0) × (c ≡ counts_of s)
+  pub laid_counts : (c : Counts) → served c ≡ laid_of s → (layout s ≡ 0) × (c ≡ counts_of s)
   unfolding laid_of
   laid_counts c = out_by c (layout s)
 
-  pub laid_number : (n : ℕ) → Refused n ≡ laid_of s → (d : ℕ) × (n ≡ suc d) × (layout s ≡ suc d)
+  pub laid_number : (n : ℕ) → refused n ≡ laid_of s → (d : ℕ) × (n ≡ suc d) × (layout s ≡ suc d)
   unfolding laid_of
   laid_number n = refused_by n (layout s)
 

@@ -1,13 +1,10 @@
 -- What the layout of a sheet comes to.
 use Rattle.std.specs.Prelude.{ℕ, zero, suc, ◌+◌, ◌*◌, ◌≤◌, ◌≡◌, List}
 use Rattle.paper.specs.declared.Counts.{Counts}
+use Rattle.paper.specs.Served.{Served, refused, served}
 use Rattle.paper.specs.Sizes.{place_words, stage_words, block_words, most_places, most_stages, most_blocks}
 use Rattle.paper.specs.Sheet.{word, stages_at, blocks_at, offices_at}
 use Rattle.paper.specs.Layout.{sections, layout}
-use Rattle.sheet.specs.declared.Laid.{Laid}
-use Rattle.sheet.specs.declared.Laid.TheVariants.{Out, Refused}
-use Rattle.sheet.specs.declared.sections.Counted.{Counted}
-use Rattle.sheet.specs.declared.sections.Counted.TheVariants as counted
 
 -- how many records each section of the sheet has
 unfoldable pub counts_of : List ℕ → Counts
@@ -15,17 +12,17 @@ unfolding offices_at
 counts_of s = record { places = word s 0; stages = word s (stages_at s); blocks = word s (blocks_at s); offices = word s (offices_at s) }
 
 -- the counts where nothing is due, and else the number that is
-abbrev pub laid_by : List ℕ → ℕ → Laid
-laid_by s zero = Out (counts_of s)
-laid_by s (suc n) = Refused (suc n)
+abbrev pub laid_by : List ℕ → ℕ → Served Counts
+laid_by s zero = served (counts_of s)
+laid_by s (suc n) = refused (suc n)
 
-unfoldable pub laid_of : List ℕ → Laid
+unfoldable pub laid_of : List ℕ → Served Counts
 laid_of s = laid_by s (layout s)
 
 -- the same of one section
-abbrev pub counted_by : ℕ → ℕ → Counted
-counted_by n zero = counted.Records n
-counted_by n (suc d) = counted.Refused (suc d)
+abbrev pub counted_by : ℕ → ℕ → Served ℕ
+counted_by n zero = served n
+counted_by n (suc d) = refused (suc d)
 
 -- all four sections of the sheet are whole, and have these counts
 pub record Sectioned (s : List ℕ) (c : Counts) : Type 0 where

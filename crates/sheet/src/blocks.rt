@@ -25,7 +25,8 @@ pub struct Block {
     pub high: u32,
 }
 
-fn read_block(sheet: &[u8], base: usize, i: usize) -> Block
+// The record of block i, in a section whose count stands at word `base`.
+pub fn read_block(sheet: &[u8], base: usize, i: usize) -> Block
     requires { (base ≡ blocks_at sheet.now) × (4 * (base + 1 + block_words * i + block_words) ≤ length sheet.now) }
     ensures { BlockIs (map_of sheet.now) i result }
 {

@@ -31,41 +31,41 @@ blocks-hold c = sym c.blocks_hold.ensures ∙ c.if-not-blocks_hold.false
 -- the list's test is that of the sheet's offices
 offices-test : (c : After-offices_hold) → c.offices_hold.result ≡ offices_hold (map_of c.args.sheet.now) (offices_of c.args.sheet.now)
 offices-test c =
-    let list = rest_is _ _ c.args.sheet.now c.list_at-at.ensures in
+    let list = rest_is _ _ c.args.sheet.now c.list_at.ensures in
     c.offices_hold.ensures (map_of c.args.sheet.now) (sym (parts c.before.before.before.before.before.before.before.before.before.before.before.before.before.before).places) ∙ ap (offices_hold (map_of c.args.sheet.now)) (ap offices_in list ∙ list_offices _ _ c.requires)
 
 pub places_hold-requires : goal.places_hold-requires
 places_hold-requires c = parts (goal.at.places_hold-requires c).Start
 
 pub returns-then-not-places_hold : goal.returns-then-not-places_hold
-returns-then-not-places_hold c = c.refused.ensures ∙ refused_3 _ c.requires.whole (sym c.places_hold.ensures ∙ c.if-not-places_hold.true)
+returns-then-not-places_hold c = refused_3 _ c.requires.whole (sym c.places_hold.ensures ∙ c.if-not-places_hold.true)
 
 pub stages_hold-requires : goal.stages_hold-requires
 stages_hold-requires c = record { parted = parts (goal.at.stages_hold-requires c).Start; zeros = fresh _ (room _ _ (parts (goal.at.stages_hold-requires c).Start)).within.places }
 
 pub returns-then-not-stages_hold : goal.returns-then-not-stages_hold
-returns-then-not-stages_hold c = c.refused-then-not-stages_hold.ensures ∙ refused_4 _ c.requires.whole (places-hold (goal.at.returns-then-not-stages_hold c).Else-not-places_hold) (sym c.stages_hold.ensures.value ∙ c.if-not-stages_hold.true)
+returns-then-not-stages_hold c = refused_4 _ c.requires.whole (places-hold (goal.at.returns-then-not-stages_hold c).Else-not-places_hold) (sym c.stages_hold.ensures.value ∙ c.if-not-stages_hold.true)
 
 pub blocks_hold-requires : goal.blocks_hold-requires
 blocks_hold-requires c = let long : c.args.counts.places ≤ length c.stages_hold.new.leaving = omega (arith, c.stages_hold.auto.leaving, length-replicate {A = ℕ} most_places 0, (room _ _ (parts (goal.at.blocks_hold-requires c).Start)).within.places) in record { parted = parts (goal.at.blocks_hold-requires c).Start; places_in_bounds = long; leaving = c.stages_hold.ensures.leaving c.if-not-stages_hold.false }
 
 pub returns-then-not-blocks_hold : goal.returns-then-not-blocks_hold
-returns-then-not-blocks_hold c = c.refused-then-not-blocks_hold.ensures ∙ refused_5 _ c.requires.whole (places-hold (goal.at.returns-then-not-blocks_hold c).Else-not-places_hold) (stages-hold (goal.at.returns-then-not-blocks_hold c).Else-not-stages_hold) (sym c.blocks_hold.ensures ∙ c.if-not-blocks_hold.true)
+returns-then-not-blocks_hold c = refused_5 _ c.requires.whole (places-hold (goal.at.returns-then-not-blocks_hold c).Else-not-places_hold) (stages-hold (goal.at.returns-then-not-blocks_hold c).Else-not-stages_hold) (sym c.blocks_hold.ensures ∙ c.if-not-blocks_hold.true)
 
-pub list_at-at-requires : goal.list_at-at-requires
-list_at-at-requires c = (room _ _ (parts (goal.at.list_at-at-requires c).Start)).within
+pub list_at-requires : goal.list_at-requires
+list_at-requires c = (room _ _ (parts (goal.at.list_at-requires c).Start)).within
 
 pub slice_bounds-offices_hold-count : goal.slice_bounds-offices_hold-count
-slice_bounds-offices_hold-count c = omega (arith, c.list_at-at.ensures, offices_end _ _ c.requires)
+slice_bounds-offices_hold-count c = omega (arith, c.list_at.ensures, offices_end _ _ c.requires)
 
 pub slice_bounds-offices_hold-start : goal.slice_bounds-offices_hold-start
-slice_bounds-offices_hold-start c = omega (arith, c.list_at-at.ensures, offices_end _ _ c.requires)
+slice_bounds-offices_hold-start c = omega (arith, c.list_at.ensures, offices_end _ _ c.requires)
 
 pub slice_bounds-offices_hold-end : goal.slice_bounds-offices_hold-end
-slice_bounds-offices_hold-end c = omega (arith, c.list_at-at.ensures, offices_end _ _ c.requires)
+slice_bounds-offices_hold-end c = omega (arith, c.list_at.ensures, offices_end _ _ c.requires)
 
 pub returns-then-not-offices_hold : goal.returns-then-not-offices_hold
-returns-then-not-offices_hold c = c.refused-then-not-offices_hold.ensures ∙ refused_6 _ c.requires.whole (places-hold (goal.at.returns-then-not-offices_hold c).Else-not-places_hold) (stages-hold (goal.at.returns-then-not-offices_hold c).Else-not-stages_hold) (blocks-hold (goal.at.returns-then-not-offices_hold c).Else-not-blocks_hold) (sym (offices-test (goal.at.returns-then-not-offices_hold c).After-offices_hold) ∙ c.if-not-offices_hold.true)
+returns-then-not-offices_hold c = refused_6 _ c.requires.whole (places-hold (goal.at.returns-then-not-offices_hold c).Else-not-places_hold) (stages-hold (goal.at.returns-then-not-offices_hold c).Else-not-stages_hold) (blocks-hold (goal.at.returns-then-not-offices_hold c).Else-not-blocks_hold) (sym (offices-test (goal.at.returns-then-not-offices_hold c).After-offices_hold) ∙ c.if-not-offices_hold.true)
 
 pub returns : goal.returns
 returns c = laid_out _ c.requires.whole _ c.requires.counts (places-hold (goal.at.returns c).Else-not-places_hold) (stages-hold (goal.at.returns c).Else-not-stages_hold) (blocks-hold (goal.at.returns c).Else-not-blocks_hold) (sym (offices-test (goal.at.returns c).After-offices_hold) ∙ c.if-not-offices_hold.false)

@@ -8,7 +8,7 @@ use borrow.Author.Tests.{le-ltb, lt-ltb, le-leb, lt-leb}
 use Rattle.paper.specs.Sizes.{block_words}
 use Rattle.paper.specs.Sheet.{word}
 use Rattle.paper.specs.Layout.{words_in, section}
-use Rattle.sheet.specs.declared.sections.Counted.TheVariants as counted
+use Rattle.paper.specs.Served.{served}
 use Rattle.sheet.proofs.sections.section.Goals.{After-word-count}
 use Rattle.sheet.proofs.sections.section.Goals as goal
 
@@ -56,4 +56,4 @@ unfolding section
 returns c =
     let a = c.args in
     let s : List ℕ = a.sheet.now in
-    rw (lt-ltb a.at (words_in s) (omega arith), le-leb a.least (word s a.at) (omega arith), le-leb (word s a.at) a.most (omega arith), le-leb (a.at + 1 + a.size * word s a.at) (words_in s) (omega (arith, records (goal.at.returns c).After-word-count))) (ap counted.Records c.word-count.ensures)
+    rw (lt-ltb a.at (words_in s) (omega arith), le-leb a.least (word s a.at) (omega arith), le-leb (word s a.at) a.most (omega arith), le-leb (a.at + 1 + a.size * word s a.at) (words_in s) (omega (arith, records (goal.at.returns c).After-word-count))) (ap served c.word-count.ensures)
