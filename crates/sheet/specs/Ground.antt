@@ -1,7 +1,7 @@
 -- What the core reads: the ground, places and blocks at the start of some bytes; the book, the stages in slices; the list, office records in a slice of their own.
-use Rattle.std.specs.Prelude.{ℕ, ◌*◌, ◌≤◌, ◌<◌, ◌≡◌, true, List, length}
+use Rattle.std.specs.Prelude.{ℕ, ◌+◌, ◌*◌, ◌≤◌, ◌<◌, ◌≡◌, true, List, length, get_or}
 use Rattle.paper.specs.declared.Counts.{Counts}
-use Rattle.paper.specs.Sizes.{place_words, stage_words, block_words, most_places, most_stages, most_blocks, most_offices}
+use Rattle.paper.specs.Sizes.{place_words, stage_words, block_words, most_places, most_stages, most_blocks, most_offices, most_furlongs}
 use Rattle.paper.specs.Map.{Map}
 use Rattle.paper.specs.Sheet.{word, stages_at, blocks_at, map_of}
 use Rattle.paper.specs.Layout.{section, places_hold, stages_hold, blocks_lie, blocks_hold}
@@ -30,16 +30,23 @@ pub record Mapped (g : List ℕ) (c : Counts) : Type 0 where
   pub stages : stages_hold (map_of g) ≡ true
   pub blocks : blocks_hold (map_of g) ≡ true
 
+-- the stage that the block b names by its colour
+abbrev pub named : List ℕ → List ℕ → ℕ → ℕ
+named g first b = get_or first ((map_of g).owner b) 0 + (map_of g).colour b
+
 -- the map m has the ground g and keeps the rules, and its stages stand in the book
 pub record Charted (g first heads lengths : List ℕ) (m : Map) : Type 0 where
   pub ground : SameGround m (map_of g)
   pub lawful : Lawful m
   pub leads : Leads m first heads lengths
 
--- there is such a map
-pub record Chart (g first heads lengths : List ℕ) : Type 0 where
-  pub map : Map
-  pub charted : Charted g first heads lengths map
+-- the stage that each block names stands in the book, leads to a place, and is as long as a stage may be
+pub record Stocked (g first heads lengths : List ℕ) : Type 0 where
+  pub places : (map_of g).places ≤ length first
+  pub to : (b : ℕ) → b < (map_of g).blocks → named g first b < length heads
+  pub long : (b : ℕ) → b < (map_of g).blocks → named g first b < length lengths
+  pub placed : (b : ℕ) → b < (map_of g).blocks → get_or heads (named g first b) 0 < (map_of g).places
+  pub short : (b : ℕ) → b < (map_of g).blocks → get_or lengths (named g first b) 0 ≤ most_furlongs
 
 -- a list of n offices, each at one of the places
 pub record Roll (l : List ℕ) (n places : ℕ) : Type 0 where

@@ -40,7 +40,7 @@ pub slice_bounds-result-start : goal.slice_bounds-result-start
 slice_bounds-result-start c = omega (arith, c.list_at.ensures, offices_end _ _ (whole (goal.at.slice_bounds-result-start c).In_ok-counts))
 
 pub invariant_of-result : goal.invariant_of-result
-invariant_of-result c = let (h, e) = due (goal.at.invariant_of-result c).In_ok-records in record { keeps = laid_mapped _ _ h e }
+invariant_of-result c = let (h, e) = due (goal.at.invariant_of-result c).In_ok-records in record { fits = λ i p. (c.type_inv.sheet i).fits; keeps = laid_mapped _ _ h e }
 
 pub invariant_of-result-2 : goal.invariant_of-result-2
 invariant_of-result-2 c =
