@@ -1,7 +1,7 @@
 -- The stage that a block names, by the book, on any map that has the ground and the book.
 use Prim.Native.Nat.{ℕ, ◌+◌, ◌≤◌, ◌<◌}
 use native.Mathlib.Omega.{arith}
-use mathlib.Core.Path.{◌≡◌, ◌∙◌}
+use mathlib.Core.Path.{◌≡◌, refl, ◌∙◌}
 use mathlib.Core.List.{List}
 use lib.ListN.{length, get_or}
 use Rattle.paper.specs.Sizes.{most_furlongs}
@@ -10,7 +10,7 @@ use Rattle.paper.specs.Sheet.{map_of}
 use Rattle.paper.specs.Stage.{stage_of}
 use Rattle.paper.proofs.LaidOut.{LaidOut}
 use Rattle.paper.proofs.Laid.{lawful_laid}
-use Rattle.sheet.specs.Ground.{Charted}
+use Rattle.sheet.specs.Ground.{Charted, Stocked, named}
 use Rattle.sheet.proofs.Booked.{stage_at}
 
 -- stage i is the one that u's block b names: it stands in the book, and leads to a place
@@ -46,6 +46,28 @@ module _ {g first heads lengths : List ℕ} {m : Map} (C : Charted g first heads
         short = laid.short i under;
       }
 
-  -- the book's first words are for the places
-  pub first_room : (u : ℕ) → u < (map_of g).places → u < length first
-  first_room u p = omega (arith, C.ground.places, C.leads.begins.long)
+-- stage i of a book leads to a place, and is as long as a stage may be
+pub record Reads (places : ℕ) (heads lengths : List ℕ) (i : ℕ) : Type 0 where
+  pub to : i < length heads
+  pub long : i < length lengths
+  pub placed : get_or heads i 0 < places
+  pub short : get_or lengths i 0 ≤ most_furlongs
+
+-- the stage that u's block b names does
+pub reads : {g first heads lengths : List ℕ} → Stocked g first heads lengths → (u b i : ℕ) → b < (map_of g).blocks → (map_of g).owner b ≡ u
+    → i ≡ get_or first u 0 + (map_of g).colour b → Reads (map_of g).places heads lengths i
+reads {g} {first} {heads} {lengths} S u b i p e h =
+    let is : i ≡ named g first b = rw e h in
+    rw is (record { to = S.to b p; long = S.long b p; placed = S.placed b p; short = S.short b p })
+
+-- and the book of any map that has the ground is such a book
+pub stocked : {g first heads lengths : List ℕ} {m : Map} → Charted g first heads lengths m → Stocked g first heads lengths
+stocked {g} {first} {heads} {lengths} {m} C =
+    let L : (b : ℕ) → b < (map_of g).blocks → Led m heads lengths ((map_of g).owner b) b (named g first b) = λ b p. led C _ b _ p refl refl in
+    record {
+      places = omega (arith, C.ground.places, C.leads.begins.long);
+      to = λ b p. omega (arith, L b p);
+      long = λ b p. omega (arith, L b p);
+      placed = λ b p. let l : Led m heads lengths ((map_of g).owner b) b (named g first b) = L b p in omega (arith, l.placed, l.head, C.ground.places);
+      short = λ b p. let l : Led m heads lengths ((map_of g).owner b) b (named g first b) = L b p in omega (arith, l.short, l.furlongs);
+    }

@@ -16,8 +16,7 @@ use Rattle.paper.proofs.LaidOut.{Grounded}
 use Rattle.cells.proofs.Codes.{code_lt}
 use Rattle.paper.proofs.Test.{true_false, both_left, both_right, both_false_left, both_false_right}
 use Rattle.paper.proofs.Block.{block_is, block_none_of}
-use Rattle.quadtree.specs.declared.blocks.Cover.{Cover}
-use Rattle.quadtree.specs.declared.blocks.Cover.TheVariants.{By, Nothing}
+use Rattle.std.specs.Prelude.{Option, Some, None}
 use Rattle.quadtree.specs.Blocks.{key_of, key_at, Last, covers_code, Found, cover_of, CoverIs}
 
 -- the code of every place is one of the grid's
@@ -26,9 +25,9 @@ unfolding cell
 cell_lt m v k e = rw e (code_lt (m.x v) (m.y v))
 
 -- a block that is found is one of the blocks
-pub found_under : (m : Map) (u code b : ℕ) (r : Cover) → r ≡ By b → Found m u code r → b < m.blocks
-found_under m u code b (By x) e f = let same : x ≡ b = cc in omega (arith, f.0)
-found_under m u code b Nothing e f = let z : ◌≡◌ {A = ℕ} 0 1 = cc in absurd (omega arith)
+pub found_under : (m : Map) (u code b : ℕ) (r : Option ℕ) → r ≡ Some b → Found m u code r → b < m.blocks
+found_under m u code b (Some x) e f = let same : x ≡ b = cc in omega (arith, f.0)
+found_under m u code b None e f = let z : ◌≡◌ {A = ℕ} 0 1 = cc in absurd (omega arith)
 
 -- the block that is sought is one of the span blocks from last on
 pub record Narrow (m : Map) (k last span : ℕ) : Type 0 where
@@ -124,13 +123,13 @@ module _ {m : Map} (G : Grounded m) where
             absurd (omega (arith, W.owner, W.to, G.parted b r q Z.under same))
         go (no l) (no q) = omega arith
 
-    pub cover-by : covers_code m u code r ≡ true → CoverIs m u code (By r)
+    pub cover-some : covers_code m u code r ≡ true → CoverIs m u code (Some r)
     unfolding covers covers_code
-    cover-by t = record { found = (Z.under, t); block = λ v e. sym (ap cover_of (block_is G u v r Z.under (rw e t))) }
+    cover-some t = record { found = (Z.under, t); block = λ v e. sym (ap cover_of (block_is G u v r Z.under (rw e t))) }
 
-    pub cover-nothing : covers_code m u code r ≡ false → CoverIs m u code Nothing
+    pub cover-none : covers_code m u code r ≡ false → CoverIs m u code None
     unfolding covers covers_code
-    cover-nothing t = record { found = none-does; block = λ v e. sym (ap cover_of (block_none_of m u v (λ b p. rw e (none-does b p)))) }
+    cover-none t = record { found = none-does; block = λ v e. sym (ap cover_of (block_none_of m u v (λ b p. rw e (none-does b p)))) }
       where
         none-does : (b : ℕ) → b < m.blocks → covers_code m u code b ≡ false
         none-does b p = go (covers_code m u code b) refl
@@ -139,13 +138,13 @@ module _ {m : Map} (G : Grounded m) where
             go true e = let same : b ≡ r = only b p e in rw same t
             go false e = e
 
-  pub cover_empty : (u code : ℕ) → m.blocks ≡ 0 → CoverIs m u code Nothing
+  pub cover_empty : (u code : ℕ) → m.blocks ≡ 0 → CoverIs m u code None
   unfolding covers covers_code
   cover_empty u code h = record { found = λ b p. absurd (omega arith); block = λ v e. sym (ap cover_of (block_none_of m u v (λ b p. absurd (omega arith)))) }
 
   -- the answer for a code is determined
-  pub cover_one : (u code : ℕ) (r r' : Cover) → Found m u code r → Found m u code r' → r ≡ r'
-  cover_one u code (By b) (By c) (p, t) (p', t') = ap By (same (dec_lt b c) (dec_lt c b))
+  pub cover_one : (u code : ℕ) (r r' : Option ℕ) → Found m u code r → Found m u code r' → r ≡ r'
+  cover_one u code (Some b) (Some c) (p, t) (p', t') = ap Some (same (dec_lt b c) (dec_lt c b))
     where
       B : Within m u code b
       B = within m u code b t
@@ -157,6 +156,6 @@ module _ {m : Map} (G : Grounded m) where
       same (yes l) q = absurd (omega (arith, G.parted b c l p' (B.owner ∙ sym C.owner), B.to, C.from))
       same (no l) (yes q) = absurd (omega (arith, G.parted c b q p (C.owner ∙ sym B.owner), C.to, B.from))
       same (no l) (no q) = omega arith
-  cover_one u code (By b) Nothing (p, t) none-does = true_false t (none-does b p)
-  cover_one u code Nothing (By c) none-does (p, t) = true_false t (none-does c p)
-  cover_one u code Nothing Nothing f g = refl
+  cover_one u code (Some b) None (p, t) none-does = true_false t (none-does b p)
+  cover_one u code None (Some c) none-does (p, t) = true_false t (none-does c p)
+  cover_one u code None None f g = refl

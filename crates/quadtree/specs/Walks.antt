@@ -1,15 +1,11 @@
 -- Intervals and trails as the code hands them on.
 use Rattle.std.specs.Prelude.{ℕ, ◌+◌, ◌-◌, ◌*◌, ◌/◌, min, max}
 use Rattle.paper.specs.Sizes.{ratio_unit}
-use Rattle.paper.specs.Served.{Served, refused, served, and_then}
+use Rattle.paper.specs.Served.{Served, and_then}
 use Rattle.paper.specs.Map.{Map}
 use Rattle.paper.specs.Trail.{Ends, Trail, between, tested}
-use Rattle.paper.specs.declared.Network.{Network}
 use Rattle.paper.specs.declared.Trail as code
-use Rattle.quadtree.specs.declared.interval.Interval.{Interval}
-use Rattle.quadtree.specs.declared.interval.Interval.TheVariants as interval
-use Rattle.quadtree.specs.declared.walk.Step.{Step}
-use Rattle.quadtree.specs.declared.walk.Step.TheVariants as step
+use Rattle.quadtree.specs.declared.interval.Ends as interval
 
 -- the low end is rounded up, the high end down
 abbrev pub low_end : ℕ → ℕ → ℕ
@@ -18,27 +14,16 @@ low_end ratio c = (ratio * c + (ratio_unit - 1)) / ratio_unit
 abbrev pub high_end : ℕ → ℕ → ℕ
 high_end ratio c = ratio * c / ratio_unit
 
-abbrev pub furlongs : ℕ → Network
-furlongs n = record { 0 = n }
-
 -- the ends that the block b gives over the crow distance c
-abbrev pub ends_of : Map → ℕ → ℕ → Interval
-ends_of m b c = interval.Ends (furlongs (low_end (m.low b) c)) (furlongs (high_end (m.high b) c))
+abbrev pub ends_of : Map → ℕ → ℕ → Ends
+ends_of m b c = record { low = low_end (m.low b) c; high = high_end (m.high b) c }
 
-abbrev pub interval_of : Served Ends → Interval
-interval_of (refused n) = interval.Refused n
-interval_of (served e) = interval.Ends (furlongs e.low) (furlongs e.high)
+-- ends and a trail of the code
+abbrev pub ends_as : interval.Ends → Ends
+ends_as e = record { low = e.low.0; high = e.high.0 }
 
--- a trail of the code, and back
 abbrev pub trail_of : code.Trail → Trail
 trail_of t = record { via = t.via; walked = t.walked.0; low = t.low.0; high = t.high.0; stages = t.stages }
-
-abbrev pub trail_by : Trail → code.Trail
-trail_by t = record { via = t.via; walked = furlongs t.walked; low = furlongs t.low; high = furlongs t.high; stages = t.stages }
-
-abbrev pub step_of : Served Trail → Step
-step_of (refused n) = step.Refused n
-step_of (served t) = step.To (trail_by t)
 
 -- the trail t after a stage of the length to the place via, whose ends are e
 abbrev pub ahead : Trail → ℕ → ℕ → Ends → Trail

@@ -1,22 +1,23 @@
 // The interval between two places.
 ghost use Rattle.std.specs.Prelude.{◌≡◌, ◌<◌};
+ghost use Rattle.paper.specs.Refusal.{served_as};
 ghost use Rattle.paper.specs.Sheet.{map_of};
 ghost use Rattle.paper.specs.Cell.{cell};
-ghost use Rattle.paper.specs.Crow.{crow as crowOf};
-ghost use Rattle.paper.specs.Trail.{between as betweenOf};
-ghost use Rattle.sheet.specs.Ground.{Ground};
-ghost use Rattle.quadtree.specs.Walks.{low_end, high_end, ends_of, interval_of};
+ghost use Rattle.paper.specs.Crow.{crow as crow_of};
+ghost use Rattle.paper.specs.Trail.{between as between_of};
+ghost use Rattle.quadtree.specs.Walks.{low_end, high_end, ends_of, ends_as};
 
-use crate::blocks::{Cover, block_of, high_of, low_of};
+use crate::blocks::block_of;
 use paper::sizes::RATIO_UNIT;
-use paper::{Counts, Network, Spatial};
+use paper::{Network, Refusal, Spatial};
+use sheet::Ground;
 use sheet::places::cell_of;
 
-// The low and the high end, or the number of the refusal.
+// The two ends of an interval.
 #[derive(Clone, Copy)]
-pub enum Interval {
-    Ends(Network, Network),
-    Refused(u32),
+pub struct Ends {
+    pub low: Network,
+    pub high: Network,
 }
 
 // What a low ratio makes of a crow distance, rounded up.
@@ -34,55 +35,54 @@ fn high_end(ratio: u32, c: Spatial) -> Network
 }
 
 // The crow distance between two places.
-pub fn crow(ground: &[u8], counts: Counts, u: usize, v: usize) -> Spatial
-    requires ground { Ground ground.now counts }
-    requires u_lt_places { (u < counts.places) × (v < counts.places) }
-    ensures { result.0 ≡ crowOf (map_of ground.now) u v }
+pub fn crow(ground: &Ground, u: usize, v: usize) -> Spatial
+    requires { (u < ground.now.counts.places) × (v < ground.now.counts.places) }
+    ensures { result.0 ≡ crow_of (map_of ground.now.bytes.now) u v }
 {
-    cells::crow(cell_of(ground, u), cell_of(ground, v))
+    cells::crow(cell_of(ground.bytes, u), cell_of(ground.bytes, v))
 }
 
 // The code of the place v.
-pub fn code(ground: &[u8], counts: Counts, v: usize) -> u32
-    requires ground { Ground ground.now counts }
-    requires v_lt_places { v < counts.places }
-    ensures { result ≡ cell (map_of ground.now) v }
+pub fn code(ground: &Ground, v: usize) -> u32
+    requires { v < ground.now.counts.places }
+    ensures { result ≡ cell (map_of ground.now.bytes.now) v }
 {
-    cells::code(cell_of(ground, v))
+    cells::code(cell_of(ground.bytes, v))
 }
 
 // The interval that the block b gives over the crow distance c.
-fn ends_of(ground: &[u8], counts: Counts, b: usize, c: Spatial) -> Interval
-    requires ground { Ground ground.now counts }
-    requires b_lt_blocks { b < counts.blocks }
-    ensures { result ≡ ends_of (map_of ground.now) b c.0 }
+fn ends_of(ground: &Ground, b: usize, c: Spatial) -> Ends
+    requires { b < ground.now.counts.blocks }
+    ensures { ends_as result ≡ ends_of (map_of ground.now.bytes.now) b c.0 }
 {
-    let low = low_end(low_of(ground, counts, b), c);
-    let high = high_end(high_of(ground, counts, b), c);
-    Interval::Ends(low, high)
+    let block = ground.block(b);
+    Ends {
+        low: low_end(block.low, c),
+        high: high_end(block.high, c),
+    }
 }
 
 // The interval between u and v, whose code is given: 0 to 0 for the same place; 17 where no block of u covers v.
-pub fn towards(ground: &[u8], counts: Counts, u: usize, v: usize, code: u32) -> Interval
-    requires ground { Ground ground.now counts }
-    requires u_lt_places { (u < counts.places) × (v < counts.places) × (code ≡ cell (map_of ground.now) v) }
-    ensures { result ≡ interval_of (betweenOf (map_of ground.now) u v) }
+pub fn towards(ground: &Ground, u: usize, v: usize, code: u32) -> Result<Ends, Refusal>
+    requires { (u < ground.now.counts.places) × (v < ground.now.counts.places) × (code ≡ cell (map_of ground.now.bytes.now) v) }
+    ensures { served_as ends_as result ≡ between_of (map_of ground.now.bytes.now) u v }
 {
     if u == v {
-        return Interval::Ends(Network(0), Network(0));
+        return Ok(Ends {
+            low: Network(0),
+            high: Network(0),
+        });
     }
-    let cover = block_of(ground, counts, u, code);
-    match cover {
-        Cover::By(b) => ends_of(ground, counts, b, crow(ground, counts, u, v)),
-        Cover::Nothing => Interval::Refused(17),
+    match block_of(ground, u, code) {
+        Some(b) => Ok(ends_of(ground, b, crow(ground, u, v))),
+        None => Err(Refusal::NoBlockOnWay),
     }
 }
 
 // The interval between two places, not yet tested.
-pub fn between(ground: &[u8], counts: Counts, u: usize, v: usize) -> Interval
-    requires ground { Ground ground.now counts }
-    requires u_lt_places { (u < counts.places) × (v < counts.places) }
-    ensures { result ≡ interval_of (betweenOf (map_of ground.now) u v) }
+pub fn between(ground: &Ground, u: usize, v: usize) -> Result<Ends, Refusal>
+    requires { (u < ground.now.counts.places) × (v < ground.now.counts.places) }
+    ensures { served_as ends_as result ≡ between_of (map_of ground.now.bytes.now) u v }
 {
-    towards(ground, counts, u, v, code(ground, counts, v))
+    towards(ground, u, v, code(ground, v))
 }

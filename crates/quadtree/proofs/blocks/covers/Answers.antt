@@ -1,25 +1,21 @@
 -- `quadtree::blocks::covers` meets its contract: each return is one of the tests of the definition.
+use mathlib.Core.Path.{sym}
 use native.Mathlib.Omega.{arith}
-use Rattle.paper.specs.Layout.{Bytes}
 use Rattle.quadtree.proofs.Words.{level-room, end-room}
 use Rattle.quadtree.proofs.Search.{covers_other, covers-before, covers_from}
-use Rattle.quadtree.proofs.blocks.covers.Goals.{After-code_of-from}
 use Rattle.quadtree.proofs.blocks.covers.Goals as goal
 
-bytes : (c : After-code_of-from) → Bytes c.args.ground.now
-bytes c i p = (c.type_inv.ground i).fits
+pub returns-then-block-u : goal.returns-then-block-u
+returns-then-block-u c = covers_other _ _ _ _ _ (sym c.block-block.ensures.owner) c.if-block-u.true
 
-pub returns-then-owner_of-u : goal.returns-then-owner_of-u
-returns-then-owner_of-u c = covers_other _ _ _ _ _ c.owner_of.ensures c.if-owner_of-u.true
-
-pub returns-then-code-from : goal.returns-then-code-from
-returns-then-code-from c = covers-before _ _ _ _ _ c.code_of-from.ensures c.if-code-from.true
+pub returns-then-code-block : goal.returns-then-code-block
+returns-then-code-block c = covers-before _ _ _ _ _ (sym c.block-block.ensures.code) c.if-code-block.true
 
 pub cells_under-requires : goal.cells_under-requires
-cells_under-requires c = level-room c.requires.ground (bytes (goal.at.cells_under-requires c).After-code_of-from) _ c.requires.b_lt_blocks _ c.level_of.ensures
+cells_under-requires c = let g = c.args.ground.now in level-room g.keeps g.fits _ c.requires _ (sym c.block-block.ensures.level)
 
 pub overflow_add-result : goal.overflow_add-result
-overflow_add-result c = omega (arith, end-room c.requires.ground (bytes (goal.at.overflow_add-result c).After-code_of-from) _ c.requires.b_lt_blocks _ _ _ c.code_of-from.ensures c.level_of.ensures c.cells_under.ensures)
+overflow_add-result c = let g = c.args.ground.now in let b = c.block-block.ensures in omega (arith, end-room g.keeps g.fits _ c.requires _ _ _ (sym b.code) (sym b.level) c.cells_under.ensures)
 
 pub returns : goal.returns
-returns c = covers_from _ _ _ _ _ _ _ _ c.owner_of.ensures c.if-owner_of-u.false c.code_of-from.ensures c.if-code-from.false c.level_of.ensures c.cells_under.ensures
+returns c = let b = c.block-block.ensures in covers_from _ _ _ _ _ _ _ _ (sym b.owner) c.if-block-u.false (sym b.code) c.if-code-block.false (sym b.level) c.cells_under.ensures

@@ -6,18 +6,19 @@ use Rattle.quadtree.proofs.blocks.last_up_to.Goals.{then-key_of-asked, else-key_
 use Rattle.quadtree.proofs.blocks.last_up_to.Goals as goal
 
 pub loop-span-init : goal.loop-span-init
-loop-span-init c = let e = (standing c.requires.ground).blocks in rw e (narrow_all _ _ (omega arith))
+loop-span-init c = let e = (standing c.args.ground.now.keeps).blocks in simp e (narrow_all _ _ (omega (arith, c.requires)))
 
 pub overflow_add-middle : goal.overflow_add-middle
-overflow_add-middle c = let e = (standing c.requires.ground).blocks in omega arith
+overflow_add-middle c = omega (arith, (standing c.args.ground.now.keeps).blocks)
 
 pub key_of-requires : goal.key_of-requires
-key_of-requires c = record { ground = c.requires.ground; b_lt_blocks = omega (arith, (standing c.requires.ground).blocks) }
+key_of-requires c = omega (arith, (standing c.args.ground.now.keeps).blocks)
 
 pub loop-span-preserved : goal.loop-span-preserved
 loop-span-preserved c =
     let i = c.loop-span in
-    let G = rules c.requires.ground (λ k p. (c.type_inv.ground k).fits) in
+    let g = c.args.ground.now in
+    let G = rules g.keeps g.fits in
     elim c.if-key_of-asked.branch [
       | then-key_of-asked w ↦ rw w.last-is (narrow_up G _ i.last i.span i.invariant (omega arith) (omega (arith, w.if-key_of-asked.true, c.key_of.ensures)))
       | else-key_of-asked w ↦ rw w.last-is (narrow_down G _ i.last i.span i.invariant (omega arith) (omega (arith, w.if-key_of-asked.false, c.key_of.ensures)))

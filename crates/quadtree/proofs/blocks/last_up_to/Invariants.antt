@@ -4,7 +4,7 @@ use Rattle.quadtree.proofs.Search.{Narrow}
 use Rattle.quadtree.proofs.blocks.last_up_to.Given as goal
 
 abbrev pub invariant-loop-span : goal.invariant-loop-span
-invariant-loop-span l = Narrow (map_of l.ground) l.asked l.last l.span
+invariant-loop-span l = Narrow (map_of l.ground.bytes.now) l.asked l.last l.span
 
 abbrev pub decreases-loop-span : goal.decreases-loop-span
 decreases-loop-span l = l.span

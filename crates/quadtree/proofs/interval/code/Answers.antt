@@ -5,10 +5,10 @@ use Rattle.quadtree.proofs.Words.{place_room, on_grid}
 use Rattle.quadtree.proofs.interval.code.Goals as goal
 
 pub cell_of-requires : goal.cell_of-requires
-cell_of-requires c = place_room c.requires.ground _ c.requires.v_lt_places
+cell_of-requires c = place_room c.args.ground.now.keeps _ c.requires
 
 pub code-requires : goal.code-requires
-code-requires c = on_grid c.requires.ground _ _ c.requires.v_lt_places c.cell_of.ensures
+code-requires c = on_grid c.args.ground.now.keeps _ _ c.requires c.cell_of.ensures
 
 pub returns : goal.returns
 returns c = c.code.ensures ∙ code_place _ _ _ c.cell_of.ensures.x c.cell_of.ensures.y
