@@ -14,40 +14,21 @@ use Rattle.paper.specs.Road.{arrived}
 use Rattle.paper.specs.Slice.{Untouched}
 use Rattle.roads.specs.Towards.{far}
 use Rattle.roads.specs.Search.{packed, word_of, Done, Halfway, Sound}
-use Rattle.roads.proofs.Stores.{set_more}
 
--- ---- `start`: the first u places have no length; w₀ is the min-tree's slice
-pub record Blank (n u : ℕ) (column₀ w₀ column w : List ℕ) : Type 0 where
+-- ---- `start`: the first u places have no length
+pub record Blank (n u : ℕ) (column₀ column w : List ℕ) : Type 0 where
   pub upto : u ≤ n
   pub few : n ≤ most_places
-  pub column_long : length column ≡ length column₀
-  pub w_long : length w ≡ length w₀
   pub column_room : n ≤ length column
   pub w_room : n + n ≤ length w
   pub blank : (k : ℕ) → k < u → get_or column k 0 ≡ far
   pub word : (k : ℕ) → k < u → get_or w (n + k) 0 ≡ packed far k
   pub past : Untouched n column₀ column
 
-pub blank_step : {n u : ℕ} {column₀ w₀ column w : List ℕ} → Blank n u column₀ w₀ column w → u < n → Blank n (u + 1) column₀ w₀ (set column u far) (set w (n + u) (packed far u))
-blank_step {n} {u} {column = column} {w = w} B l = record {
-  upto = omega arith;
-  few = B.few;
-  column_long = simp length-set B.column_long;
-  w_long = simp length-set B.w_long;
-  column_room = simp length-set B.column_room;
-  w_room = simp length-set B.w_room;
-  blank = set_more (λ k x. x ≡ far) column u far (omega arith) B.blank refl;
-  word = λ k h. elim (ℕ_discrete k u) [
-    | yes e ↦ rw (e, get_or-set_same w (n + u) (packed far u) 0 (omega arith)) refl
-    | no ne ↦ get_or-set_other w (n + u) (n + k) (packed far u) 0 (omega arith) ∙ B.word k (omega arith)
-  ];
-  past = λ k h. get_or-set_other column u k far 0 (omega arith) ∙ B.past k h;
-}
-
-pub blank_end : {n u : ℕ} {column₀ w₀ column w : List ℕ} → Blank n u column₀ w₀ column w → n ≤ u → Blank n n column₀ w₀ column w
+pub blank_end : {n u : ℕ} {column₀ column w : List ℕ} → Blank n u column₀ column w → n ≤ u → Blank n n column₀ column w
 blank_end {n} {u} B h = let e : u ≡ n = omega (arith, B.upto) in rw e at B
 
-module _ {n v : ℕ} {column₀ w₀ column w w' : List ℕ} (B : Blank n n column₀ w₀ column w) (v-in : v < n) (S : Same 0 n (set w (n + v) v) w') (P : Played w' 0 n) where
+module _ {n v : ℕ} {column₀ column w w' : List ℕ} (B : Blank n n column₀ column w) (v-in : v < n) (S : Same 0 n (set w (n + v) v) w') (P : Played w' 0 n) where
   begun-word : word_of w' n v ≡ v
   begun-word =
       let e : 0 + (n + v) ≡ n + v = omega arith in
@@ -76,9 +57,6 @@ module _ {n v : ℕ} {column₀ w₀ column w w' : List ℕ} (B : Blank n n colu
       | no ne ↦ record { word = omega (arith, other-begun u l ne, other-value u l ne); late = omega arith }
     ]);
   }
-
-  pub begun_past : Untouched n column₀ (set column v 0)
-  begun_past k l = get_or-set_other column v k 0 0 (omega arith) ∙ B.past k l
 
   pub begun_sound : (m : Map) → ((i : ℕ) → i < m.stages → m.head i < n) → Sound m n v 0 0 0 (set column v 0) w'
   begun_sound m head_in = record {

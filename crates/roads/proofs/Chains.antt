@@ -1,15 +1,16 @@
 -- The chains once the first i stages are in.
 use mathlib.Core.Path.{◌≡◌, refl, sym, ap, subst, ◌∙◌}
-use mathlib.Core.List.{List}
-use Prim.Native.Nat.{ℕ, ◌+◌, ◌≤◌, ◌<◌}
+use mathlib.Core.List.{List, ◌++◌}
+use Prim.Native.Nat.{ℕ, ◌+◌, ◌-◌, ◌≤◌, ◌<◌}
 use native.Mathlib.Decide.{ℕ_discrete}
 use native.Mathlib.Omega.{arith}
-use lib.ListN.{length, get_or, set, length-set}
+use lib.ListN.{length, get_or, set, length-set, drop, replicate}
 use lib.Seq.{get_or-set_same, get_or-set_other}
+use Rattle.std.proofs.lemmas.List.{length-append, length-replicate, get_or-replicate, get_or_append_left, get_or-append_right, get_or-drop}
 use Rattle.paper.specs.Slice.{Untouched}
 use Rattle.roads.specs.Chain.{Latest, Starts, GoesOn, Chainable, Chained}
 
--- last₀ and previous₀ are the slices where the loop begins, with no stage in a chain yet
+-- last₀ and previous₀ are the slices that `chain` is lent
 pub record Linked (heads : List ℕ) (n i : ℕ) (last₀ previous₀ last previous : List ℕ) : Type 0 where
   pub fit : Chainable heads n last previous
   pub upto : i ≤ length heads
@@ -18,16 +19,7 @@ pub record Linked (heads : List ℕ) (n i : ℕ) (last₀ previous₀ last previ
   pub last_past : Untouched n last₀ last
   pub previous_past : Untouched (length heads) previous₀ previous
 
-pub linked_start : {heads : List ℕ} {n : ℕ} {last previous : List ℕ} → Chainable heads n last previous → ((p : ℕ) → p < n → get_or last p 0 ≡ 0) → Linked heads n 0 last previous last previous
-linked_start fit zeros = record {
-  fit = fit;
-  upto = omega arith;
-  starts = λ w l. record { within = omega (arith, zeros w l); into = λ i e. absurd (omega (arith, zeros w l)); none = λ i a b. absurd (omega arith) };
-  goes = λ i l. absurd (omega arith);
-  last_past = λ k h. refl;
-  previous_past = λ k h. refl;
-}
-
+-- no stage is in a chain yet
 latest_more : (head : ℕ → ℕ) (w i b : ℕ) → (head i ≡ w → ⊥) → Latest head w i b → Latest head w (i + 1) b
 latest_more head w i b ne L = record {
   within = omega (arith, L.within);
@@ -75,14 +67,3 @@ module _ {heads : List ℕ} {n i : ℕ} {last₀ previous₀ last previous : Lis
         | yes e ↦ rw (e, get_or-set_same previous i x 0 (omega (arith, K.fit.stages)), is) (subst (λ (z : ℕ). Latest head z i (get_or last w 0)) at (K.starts w w-in))
         | no ne ↦ rw (get_or-set_other previous i k x 0 ne) (K.goes k (omega arith))
       ]
-
--- lent is the slice of `last` before it was cleared
-pub linked_end : {heads : List ℕ} {n i : ℕ} {lent last₀ previous₀ last previous : List ℕ} → Untouched n lent last₀ → Linked heads n i last₀ previous₀ last previous → length heads ≤ i → Chained heads n lent previous₀ last previous
-linked_end {heads} {i = i} cleared K h =
-    let e : i ≡ length heads = omega (arith, K.upto) in
-    record {
-      starts = rw e at K.starts;
-      goes = rw e at K.goes;
-      last_past = λ k l. K.last_past k l ∙ cleared k l;
-      previous_past = K.previous_past;
-    }

@@ -1,6 +1,5 @@
 -- `Laws` has the laws for callers. The others are what the loops rest on: `Chains` that of
--- `chain`, `Begun` that of `start`, `Steps` that of `spread`, `Settling` that of `settle`; `Stores` has lists after a store.
-pub mod Stores
+-- `chain`, `Begun` that of `start`, `Steps` that of `spread`, `Settling` that of `settle`.
 pub mod Chains
 pub mod Begun
 pub mod Steps

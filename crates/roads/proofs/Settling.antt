@@ -5,7 +5,7 @@ use mathlib.Core.List.{List}
 use Prim.Native.Nat.{ℕ, ◌+◌, ◌-◌, ◌*◌, ◌/◌, ◌%◌, ◌≤◌, ◌<◌, min}
 use native.Mathlib.Decide.{ℕ_discrete, dec_le}
 use native.Mathlib.Omega.{arith}
-use lib.ListN.{length, get_or, set}
+use lib.ListN.{get_or, set}
 use Rattle.mintree.specs.Mintree.{Played, Least, Same}
 use Rattle.mintree.proofs.Laws.{word_new, word_other}
 use Rattle.paper.specs.Sum.{sum}
@@ -137,13 +137,8 @@ module _ {n d d' : ℕ} {column w column' w' : List ℕ} (H : Halfway n d column
 -- ---- `settle`: every length up to d is settled
 pub record Settling (tails lengths last previous : List ℕ) (n : ℕ) (column₀ w₀ column w : List ℕ) : Type 0 where
   pub d : ℕ
-  pub column_long : length column ≡ length column₀
-  pub w_long : length w ≡ length w₀
   pub after : After n 0 column₀ w₀ d column w
   pub sound : (m : Map) (v : ℕ) → Lists m tails lengths n → Starts m.head n m.stages last → GoesOn m.head m.stages previous → Sound m n v 0 0 0 column₀ w₀ → Sound m n v d 0 0 column w
-
-pub settling_start : {tails lengths last previous : List ℕ} {n : ℕ} {column w : List ℕ} → Halfway n 0 column w → Settling tails lengths last previous n column w column w
-settling_start H = record { d = 0; column_long = refl; w_long = refl; after = after_none H; sound = λ m v K T G S. S }
 
 module _ {tails lengths last previous : List ℕ} {n : ℕ} {column₀ w₀ column w : List ℕ} {r : ℕ} (R : Ready tails lengths previous n) (K : Settling tails lengths last previous n column₀ w₀ column w) (L : Least w 0 n r) where
   pub settling_end : far * pack ≤ r → (m : Map) (v : ℕ) → Lists m tails lengths n → Starts m.head n m.stages last → GoesOn m.head m.stages previous → Sound m n v 0 0 0 column₀ w₀ → Towards m n v (λ u. get_or column u 0)
@@ -161,26 +156,22 @@ module _ {tails lengths last previous : List ℕ} {n : ℕ} {column₀ w₀ colu
       pub next-after : After n K.d column w (r / pack) column w₁
       next-after = taken R.few K.after.halfway L some refl S₁ P₁
 
-      module _ {from : ℕ} (from_is : from ≡ get_or last (r % pack) 0) {column' w' : List ℕ} (A : After n (r / pack) column w₁ (r / pack) column' w') where
+      module _ {column' w' : List ℕ} (A : After n (r / pack) column w₁ (r / pack) column' w') where
         pub settling-less : left n column' w' < left n column w
         settling-less =
             fewer K.after.halfway (after_then next-after A) (r % pack) next-in
             (omega (arith, at_open R.few K.after.halfway L some, at_value R.few K.after.halfway L some))
             (A.stays (r % pack) next-in (taken-done R.few K.after.halfway L some refl S₁ P₁))
 
-        pub settling-step : length column' ≡ length column → length w₁ ≡ length w → length w' ≡ length w₁
-            → ((m : Map) (v p : ℕ) → Lists m tails lengths n → GoesOn m.head m.stages previous → Visit m n v (r / pack) p from column w₁ → Visit m n v (r / pack) p 0 column' w')
+        pub settling-step : ((m : Map) (v p : ℕ) → Lists m tails lengths n → GoesOn m.head m.stages previous → Visit m n v (r / pack) p (get_or last (r % pack) 0) column w₁ → Visit m n v (r / pack) p 0 column' w')
             → Settling tails lengths last previous n column₀ w₀ column' w'
-        settling-step cl wl wl' F = record {
+        settling-step F = record {
           d = r / pack;
-          column_long = cl ∙ K.column_long;
-          w_long = wl' ∙ wl ∙ K.w_long;
           after = after_then K.after (after_then next-after A);
           sound = sound;
         }
           where
             sound : (m : Map) (v : ℕ) → Lists m tails lengths n → Starts m.head n m.stages last → GoesOn m.head m.stages previous → Sound m n v 0 0 0 column₀ w₀ → Sound m n v (r / pack) 0 0 column' w'
             sound m v M T G S =
-                let B : Latest m.head (r % pack) m.stages from = rw from_is (T (r % pack) next-in) in
-                let Q = F m v (r % pack) M G (taken-visit R.few K.after.halfway L some refl S₁ P₁ M.head_in B (K.sound m v M T G S)) in
+                let Q = F m v (r % pack) M G (taken-visit R.few K.after.halfway L some refl S₁ P₁ M.head_in (T (r % pack) next-in) (K.sound m v M T G S)) in
                 record { real = Q.sound.real; self = Q.sound.self; closed = λ i l D f. Q.sound.closed i l D (λ e. omega arith) }

@@ -20,16 +20,6 @@ State d t x u = Done d t x u ⊎ Open d t x u
 
 -- ---- `lower`
 module _ {n u y : ℕ} {column w : List ℕ} (u-in : u < n) (long : n ≤ length column) (P : Played w 0 n) where
-  pub lowered_not : get_or column u 0 ≤ y → Lowered n u y column w column w
-  lowered_not h = record {
-    played = P;
-    value = omega arith;
-    word = λ l. absurd (omega arith);
-    kept = λ l. refl;
-    others = λ k ne. refl;
-    leaves = λ k ne. refl;
-  }
-
   pub lowered : {w' : List ℕ} → y < get_or column u 0 → Same 0 n (set w (0 + (n + u)) (packed y u)) w' → Played w' 0 n → Lowered n u y column w (set column u y) w'
   lowered {w'} h S P' = record {
     played = P';
@@ -162,18 +152,17 @@ pub after_then : {n d d' d'' : ℕ} {column w column' w' column'' w'' : List ℕ
 after_then A B = record { halfway = B.halfway; stays = λ u l D. B.stays u l (A.stays u l D); past = λ k l. B.past k l ∙ A.past k l }
 
 -- ---- `spread`: a turn. j is one more than the stage's number
-module _ {tails lengths previous : List ℕ} {n j d : ℕ} {column w column' w' : List ℕ} {u y next : ℕ} (R : Ready tails lengths previous n) (some : 0 < j) (upto : j ≤ length tails) (H : Halfway n d column w)
-    (u-is : u ≡ get_or tails (j - 1) 0) (y-is : y ≡ d + get_or lengths (j - 1) 0) (next-is : next ≡ get_or previous (j - 1) 0)
-    (long : length column' ≡ length column) (L : Lowered n u y column w column' w')
+module _ {tails lengths previous : List ℕ} {n j d : ℕ} {column w column' w' : List ℕ} {y : ℕ} (R : Ready tails lengths previous n) (some : 0 < j) (upto : j ≤ length tails) (H : Halfway n d column w)
+    (y-is : y ≡ d + get_or lengths (j - 1) 0) (long : length column' ≡ length column) (L : Lowered n (get_or tails (j - 1) 0) y column w column' w')
   where
-    turn_in : u < n
-    turn_in = omega (arith, R.tail_in (j - 1) (omega arith))
+    turn_in : get_or tails (j - 1) 0 < n
+    turn_in = R.tail_in (j - 1) (omega arith)
 
     pub turn-after : After n d column w d column' w'
     turn-after = step_after turn_in long H L (omega arith)
 
-    pub turn-visit : (m : Map) (v p : ℕ) → Lists m tails lengths n → GoesOn m.head m.stages previous → Visit m n v d p j column w → Visit m n v d p next column' w'
+    pub turn-visit : (m : Map) (v p : ℕ) → Lists m tails lengths n → GoesOn m.head m.stages previous → Visit m n v d p j column w → Visit m n v d p (get_or previous (j - 1) 0) column' w'
     turn-visit m v p K G Q =
         let i-in : j - 1 < m.stages = omega (arith, K.stages) in
         let j-is : j ≡ j - 1 + 1 = omega arith in
-        rw next-is (step-visit turn_in long H L (omega arith) (subst (λ (k : ℕ). Visit m n v d p k column w) j-is Q) i-in (K.tail (j - 1) i-in ∙ sym u-is) (omega (arith, K.furlongs (j - 1) i-in)) K.head_in (G (j - 1) i-in))
+        step-visit turn_in long H L (omega arith) (subst (λ (k : ℕ). Visit m n v d p k column w) j-is Q) i-in (K.tail (j - 1) i-in) (omega (arith, K.furlongs (j - 1) i-in)) K.head_in (G (j - 1) i-in)

@@ -1,5 +1,4 @@
 // The length of the shortest road to one place from every place: Dijkstra's method backwards, over a min-tree of packed words.
-// The chains alone say which way the roads run: with heads for tails and tails for heads they lead away from the place.
 #![tactic(auto)]
 
 ghost use Rattle.std.specs.Prelude.{◌≡◌, ℕ, ◌+◌, ◌≤◌, ◌<◌, length, get_or};
@@ -11,9 +10,12 @@ ghost use Rattle.roads.specs.Chain.{Chainable, Chained, Starts, GoesOn};
 ghost use Rattle.roads.specs.Towards.{far, Towards, Ready, Entered, Lists};
 ghost use Rattle.roads.specs.Search.{Lowered, Halfway, After, Sound, Visit};
 
+mod roads;
+
 use mintree::{build, change, top};
+use paper::Network;
 use paper::sizes::MOST_PLACES;
-use paper::{Network, furlongs};
+pub use roads::Roads;
 
 // The length of a place from which no road is known: above every road distance.
 pub const FAR: u32 = 2_147_483_647;
@@ -27,12 +29,6 @@ const NONE: u64 = FAR as u64 * PACK;
 // Two words in the min-tree for each place.
 const WORDS: usize = 2 * MOST_PLACES;
 
-fn wide(x: u32) -> usize
-    ensures { result ≡ x }
-{
-    x as usize
-}
-
 // The distance d and a stage more.
 fn onward(d: Network, stage: Network) -> Network
     requires { (d.0 < far) × (stage.0 ≤ most_furlongs) }
@@ -41,26 +37,15 @@ fn onward(d: Network, stage: Network) -> Network
     Network(d.0 + stage.0)
 }
 
-// The first n words are 0.
-fn clear(last: &mut [u32], n: usize)
-    requires { n ≤ length last.old }
-    ensures by_index { (p : ℕ) → p < n → get_or last.new p 0 ≡ 0 }
-    ensures untouched { Untouched n last.old last.new }
-{
-    for p in 0..n {
-        last[p] = 0;
-    }
-}
-
 // The stages into each place as a chain: last[w] is one more than the number of the last stage into w, and previous[i] than that of the
 // one before i into the same place; 0 where there is none.
 pub fn chain(heads: &[u32], n: usize, last: &mut [u32], previous: &mut [u32])
     requires { Chainable heads.now n last.old previous.old }
     ensures { Chained heads.now n last.old previous.old last.new previous.new }
 {
-    clear(last, n);
-    for i in 0..heads.len() {
-        let w = heads[i] as usize;
+    last[..n].fill(0);
+    for (i, &head) in heads.iter().enumerate() {
+        let w = head as usize;
         previous[i] = last[w];
         last[w] = i as u32 + 1;
     }
@@ -72,76 +57,9 @@ fn lower(column: &mut [u32], words: &mut [u64], n: usize, u: usize, y: Network)
     requires played { Played words.old 0 n }
     ensures { Lowered n u y.0 column.old words.old column.new words.new }
 {
-    if y.0 < furlongs(column[u]).0 {
+    if y.0 < Network::from(column[u]).0 {
         column[u] = y.0 as u32;
         change(words, 0, n, u, y.0 * PACK + u as u64);
-    }
-}
-
-// Goes through the chain from the stage numbered one less than `from`. It leads to a place at the distance d.
-fn spread(
-    tails: &[u32],
-    lengths: &[u32],
-    previous: &[u32],
-    n: usize,
-    from: usize,
-    d: Network,
-    column: &mut [u32],
-    words: &mut [u64],
-)
-    requires ready { Ready tails.now lengths.now previous.now n }
-    requires from_in_bounds { from ≤ length tails.now }
-    requires halfway { Halfway n d.0 column.old words.old }
-    ensures after { After n d.0 column.old words.old d.0 column.new words.new }
-    ensures visit { (m : Map) (v p : ℕ) → Lists m tails.now lengths.now n → GoesOn m.head m.stages previous.now → Visit m n v d.0 p from column.old words.old → Visit m n v d.0 p 0 column.new words.new }
-{
-    let mut j = from;
-    while j > 0 {
-        let i = j - 1;
-        lower(
-            column,
-            words,
-            n,
-            wide(tails[i]),
-            onward(d, furlongs(lengths[i])),
-        );
-        j = wide(previous[i]);
-    }
-}
-
-// Settles the nearest place that is not, until no place with a road is left.
-fn settle(
-    tails: &[u32],
-    lengths: &[u32],
-    last: &[u32],
-    previous: &[u32],
-    n: usize,
-    column: &mut [u32],
-    words: &mut [u64],
-)
-    requires ready { Ready tails.now lengths.now previous.now n }
-    requires entered { Entered last.now n (length tails.now) }
-    requires halfway { Halfway n 0 column.old words.old }
-    ensures untouched { Untouched n column.old column.new }
-    ensures towards { (m : Map) (v : ℕ) → Lists m tails.now lengths.now n → Starts m.head n m.stages last.now → GoesOn m.head m.stages previous.now → Sound m n v 0 0 0 column.old words.old → Towards m n v (λ u. get_or column.new u 0) }
-{
-    loop {
-        let t = top(words, 0, n);
-        if t >= NONE {
-            return;
-        }
-        let p = (t % PACK) as usize;
-        change(words, 0, n, p, NONE + p as u64);
-        spread(
-            tails,
-            lengths,
-            previous,
-            n,
-            wide(last[p]),
-            Network(t / PACK),
-            column,
-            words,
-        );
     }
 }
 
@@ -161,23 +79,49 @@ fn start(column: &mut [u32], words: &mut [u64], n: usize, v: usize)
     build(words, 0, n);
 }
 
-// column[u] is the road distance from u to v, and FAR where there is no road. The chains are those that `chain` leaves.
-pub fn towards(
-    tails: &[u32],
-    lengths: &[u32],
-    last: &[u32],
-    previous: &[u32],
-    n: usize,
-    v: usize,
-    column: &mut [u32],
-)
-    requires ready { Ready tails.now lengths.now previous.now n }
-    requires entered { Entered last.now n (length tails.now) }
-    requires v_lt_n { (v < n) × (n ≤ length column.old) }
-    ensures untouched { Untouched n column.old column.new }
-    ensures towards { (m : Map) → Lists m tails.now lengths.now n → Starts m.head n m.stages last.now → GoesOn m.head m.stages previous.now → Towards m n v (λ u. get_or column.new u 0) }
-{
-    let mut words = [0u64; WORDS];
-    start(column, &mut words, n, v);
-    settle(tails, lengths, last, previous, n, column, &mut words);
+impl Roads<'_> {
+    // Goes through the chain from the stage numbered one less than `from`. It leads to a place at the distance d.
+    // A chain is stage numbers inside slices, and not linked nodes, since there is no heap and the memory is fixed.
+    fn spread(&self, from: usize, d: Network, column: &mut [u32], words: &mut [u64])
+        requires from_in_bounds { from ≤ length self.now.tails.now }
+        requires halfway { Halfway self.now.places d.0 column.old words.old }
+        ensures after { After self.now.places d.0 column.old words.old d.0 column.new words.new }
+        ensures visit { (m : Map) (v p : ℕ) → Lists m self.now.tails.now self.now.lengths.now self.now.places → GoesOn m.head m.stages self.now.previous.now → Visit m self.now.places v d.0 p from column.old words.old → Visit m self.now.places v d.0 p 0 column.new words.new }
+    {
+        let mut j = from;
+        while j > 0 {
+            let i = j - 1;
+            let y = onward(d, Network::from(self.lengths[i]));
+            lower(column, words, self.places, self.tails[i] as usize, y);
+            j = self.previous[i] as usize;
+        }
+    }
+
+    // Settles the nearest place that is not, until no place with a road is left.
+    fn settle(&self, column: &mut [u32], words: &mut [u64])
+        requires halfway { Halfway self.now.places 0 column.old words.old }
+        ensures untouched { Untouched self.now.places column.old column.new }
+        ensures towards { (m : Map) (v : ℕ) → Lists m self.now.tails.now self.now.lengths.now self.now.places → Starts m.head self.now.places m.stages self.now.last.now → GoesOn m.head m.stages self.now.previous.now → Sound m self.now.places v 0 0 0 column.old words.old → Towards m self.now.places v (λ u. get_or column.new u 0) }
+    {
+        loop {
+            let t = top(words, 0, self.places);
+            if t >= NONE {
+                return;
+            }
+            let p = (t % PACK) as usize;
+            change(words, 0, self.places, p, NONE + p as u64);
+            self.spread(self.last[p] as usize, Network(t / PACK), column, words);
+        }
+    }
+
+    // column[u] is the road distance from u to v, and FAR where there is no road. The chains are those that `chain` leaves.
+    pub fn towards(&self, v: usize, column: &mut [u32])
+        requires { (v < self.now.places) × (self.now.places ≤ length column.old) }
+        ensures untouched { Untouched self.now.places column.old column.new }
+        ensures towards { (m : Map) → Lists m self.now.tails.now self.now.lengths.now self.now.places → Starts m.head self.now.places m.stages self.now.last.now → GoesOn m.head m.stages self.now.previous.now → Towards m self.now.places v (λ u. get_or column.new u 0) }
+    {
+        let mut words = [0u64; WORDS];
+        start(column, &mut words, self.places, v);
+        self.settle(column, &mut words);
+    }
 }
