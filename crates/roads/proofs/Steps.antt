@@ -19,17 +19,6 @@ abbrev pub State : ℕ → ℕ → ℕ → ℕ → Type 0
 State d t x u = Done d t x u ⊎ Open d t x u
 
 -- ---- `lower`
-module _ {n u y : ℕ} {column w : List ℕ} (u-in : u < n) (long : n ≤ length column) (P : Played w 0 n) where
-  pub lowered : {w' : List ℕ} → y < get_or column u 0 → Same 0 n (set w (0 + (n + u)) (packed y u)) w' → Played w' 0 n → Lowered n u y column w (set column u y) w'
-  lowered {w'} h S P' = record {
-    played = P';
-    value = omega (arith, get_or-set_same column u y 0 (omega arith));
-    word = λ l. word_new w w' 0 n u (packed y u) S P.room u-in;
-    kept = λ l. absurd (omega arith);
-    others = λ k ne. get_or-set_other column u k y 0 ne;
-    leaves = λ k ne. word_other w w' 0 n u (packed y u) S k ne;
-  }
-
 -- ---- a stage
 module _ {n u y d : ℕ} {column w column' w' : List ℕ} (u-in : u < n) (long : length column' ≡ length column) (H : Halfway n d column w) (L : Lowered n u y column w column' w') (onward : d ≤ y) where
   abbrev t : ℕ → ℕ
