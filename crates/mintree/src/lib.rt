@@ -3,14 +3,8 @@
 // words[tree] is not used. To know whose word is the least, a caller packs the index into it, below the key.
 #![tactic(auto)]
 
-ghost use Rattle.std.specs.Prelude.{◌≡◌, ◌+◌, ◌<◌, min, set};
+ghost use Rattle.std.specs.Prelude.{◌+◌, ◌<◌, set};
 ghost use Rattle.mintree.specs.Mintree.{Room, Played, Least, Same};
-
-fn lesser(x: u64, y: u64) -> u64
-    ensures { result ≡ min x y }
-{
-    if x < y { x } else { y }
-}
 
 // Plays every match, from the last node to the first.
 pub fn build(words: &mut [u64], tree: usize, n: usize)
@@ -18,10 +12,8 @@ pub fn build(words: &mut [u64], tree: usize, n: usize)
     ensures same { Same tree n words.old words.new }
     ensures played { Played words.new tree n }
 {
-    let mut p = n;
-    while 1 < p {
-        p -= 1;
-        words[tree + p] = lesser(words[tree + 2 * p], words[tree + (2 * p + 1)]);
+    for p in (1..n).rev() {
+        words[tree + p] = words[tree + 2 * p].min(words[tree + (2 * p + 1)]);
     }
 }
 
@@ -37,7 +29,7 @@ pub fn change(words: &mut [u64], tree: usize, n: usize, i: usize, x: u64)
     words[tree + p] = won;
     while 1 < p {
         // the other node below the same one is p + 1 for an even p, and p - 1 for an odd one
-        won = lesser(won, words[tree + (p + 1 - 2 * (p % 2))]);
+        won = won.min(words[tree + (p + 1 - 2 * (p % 2))]);
         p /= 2;
         words[tree + p] = won;
     }

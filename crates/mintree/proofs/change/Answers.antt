@@ -6,7 +6,7 @@ pub loop-p-init : goal.loop-p-init
 loop-p-init c = loose_start _ _ _ _ _ c.requires.i_lt_n c.requires.played
 
 pub loop-p-preserved : goal.loop-p-preserved
-loop-p-preserved c = loose_step _ _ _ _ _ _ _ c.loop-p.invariant c.loop-p-test.true c.lesser-won.ensures
+loop-p-preserved c = loose_step _ _ _ _ _ _ _ c.loop-p.invariant c.loop-p-test.true c.min-won.ensures
 
 pub returns : goal.returns
 returns c = record { same = c.loop-p.invariant.same; played_2 = loose_end _ _ _ _ _ _ c.loop-p.invariant c.loop-p-test.false }
