@@ -7,6 +7,7 @@ ghost use Rattle.std.specs.Prelude.{◌+◌, ◌<◌, set};
 ghost use Rattle.mintree.specs.Mintree.{Room, Played, Least, Same};
 
 // Plays every match, from the last node to the first.
+#[tactic(auto, using(crate::proofs::Nodes::built_start, crate::proofs::Nodes::built_step, crate::proofs::Nodes::built_end))]
 pub fn build(words: &mut [u64], tree: usize, n: usize)
     requires { Room words.old tree n }
     ensures same { Same tree n words.old words.new }
@@ -18,6 +19,7 @@ pub fn build(words: &mut [u64], tree: usize, n: usize)
 }
 
 // Stores the word x at the index i, and plays the matches again from there to the first node.
+#[tactic(auto, using(crate::proofs::Nodes::loose_start, crate::proofs::Nodes::loose_step, crate::proofs::Nodes::loose_end))]
 pub fn change(words: &mut [u64], tree: usize, n: usize, i: usize, x: u64)
     requires i_lt_n { i < n }
     requires played { Played words.old tree n }
@@ -36,6 +38,7 @@ pub fn change(words: &mut [u64], tree: usize, n: usize, i: usize, x: u64)
 }
 
 // The least of the words.
+#[tactic(auto, using(crate::proofs::Laws::least_of))]
 pub fn top(words: &[u64], tree: usize, n: usize) -> u64
     requires { Played words.now tree n }
     ensures { Least words.now tree n result }
