@@ -14,13 +14,8 @@ const DIGITS: u32 = 8;
 
 const WAYS: usize = DIGITS as usize;
 
-fn index(kid: u16) -> usize
-    ensures { result ≡ kid }
-{
-    kid as usize
-}
-
 // Whether word i differs from each before it; if so, it is hung into their tree.
+// The tree's links are indices into a lent array, since there is no heap and memory is fixed: so the walk goes by index.
 fn is_new(words: &[u32], i: usize, kids: &mut [u16]) -> bool
     requires le_i { (1 ≤ i) × (i < length words.now) × (i < most_places) }
     requires hung { Hung words.now i kids.old }
@@ -32,7 +27,7 @@ fn is_new(words: &[u32], i: usize, kids: &mut [u16]) -> bool
     let mut p = 0;
     while words[p] != word {
         let at = WAYS * p + (digits % DIGITS) as usize;
-        let next = index(kids[at]);
+        let next = usize::from(kids[at]);
         if next == 0 {
             kids[at] = i as u16;
             return true;
@@ -49,10 +44,7 @@ pub fn all_differ(words: &[u32], n: usize) -> bool
     ensures { result ≡ apart n (same words.now) }
 {
     let mut kids = [0u16; WAYS * MOST_PLACES];
-    // the last word that hangs in the tree
-    let mut i = 0;
-    while i + 1 < n {
-        i += 1;
+    for i in 1..n {
         if !is_new(words, i, &mut kids) {
             return false;
         }

@@ -1,13 +1,11 @@
 -- `differ::is_new` meets its contract. The invariant: word i is on its way down the tree of those before it, which nothing has changed.
-use mathlib.Core.Path.{◌≡◌}
 use Prim.Native.Nat.{◌-◌}
-use lib.ListN.{length}
 use Rattle.differ.specs.Tree.{Hung}
 use Rattle.differ.proofs.Hanging.{Seeking}
 use Rattle.differ.proofs.is_new.Given as goal
 
 abbrev pub invariant-loop-p : goal.invariant-loop-p
-invariant-loop-p l = (length l.kids ≡ length l.initial.kids) × Hung l.words l.i l.kids × Seeking l.words l.i l.kids l.digits l.p
+invariant-loop-p l = Hung l.words l.i l.kids × Seeking l.words l.i l.kids l.digits l.p
 
 abbrev pub decreases-loop-p : goal.decreases-loop-p
 decreases-loop-p l = l.i - l.p
