@@ -112,3 +112,6 @@ module _ (words : List ℕ) where
 
   pub apart_fewer : (i n : ℕ) → n ≤ i → apart i (same words) ≡ true → apart n (same words) ≡ true
   apart_fewer i n p h = apart_of n (same words) (λ k j q r. apart_true i (same words) h k j (omega arith) r)
+
+-- what begins the way down, and goes on with it
+pub ruleset ways_down = (seek, seek-down)

@@ -16,6 +16,7 @@ const WAYS: usize = DIGITS as usize;
 
 // Whether word i differs from each before it; if so, it is hung into their tree.
 // The tree's links are indices into a lent array, since there is no heap and memory is fixed: so the walk goes by index.
+#[tactic(auto, using(crate::proofs::Hanging::ways_down))]
 fn is_new(words: &[u32], i: usize, kids: &mut [u16]) -> bool
     requires le_i { (1 ≤ i) × (i < length words.now) × (i < most_places) }
     requires hung { Hung words.now i kids.old }
