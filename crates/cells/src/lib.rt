@@ -4,7 +4,7 @@
 ghost use Rattle.std.specs.Prelude.{◌≡◌, ◌*◌, ◌^◌, ◌<◌, ◌≤◌};
 ghost use Rattle.paper.specs.Sizes.{grid_side, top_level};
 ghost use Rattle.paper.specs.Cell.{spread as spread_of, code_of};
-ghost use Rattle.paper.specs.Crow.{Root, gap as gap_of, crow_across};
+ghost use Rattle.paper.specs.Crow.{Root, gap, crow_across};
 ghost use Rattle.cells.specs.Cells.{OnGrid, MovedApart, root_limit};
 
 use paper::sizes::{CROW_UNIT, GRID_SIDE};
@@ -51,17 +51,6 @@ pub fn cells_under(level: u32) -> u32
     1 << (2 * level)
 }
 
-// How far apart two coordinates are.
-fn gap(a: u32, b: u32) -> u64
-    ensures { result ≡ gap_of a b }
-{
-    if a < b {
-        (b - a) as u64
-    } else {
-        (a - b) as u64
-    }
-}
-
 // The largest number whose square is at most n. It lies from `root` on, among the next `span` numbers.
 fn root(n: u64) -> u64
     requires { n < root_limit * root_limit }
@@ -81,9 +70,9 @@ fn root(n: u64) -> u64
 // The crow distance between two cells.
 pub fn crow(a: Cell, b: Cell) -> Spatial
     requires { (OnGrid a) × (OnGrid b) }
-    ensures { result.0 ≡ crow_across (gap_of a.x b.x) (gap_of a.y b.y) }
+    ensures { result.0 ≡ crow_across (gap a.x b.x) (gap a.y b.y) }
 {
-    let dx = gap(a.x, b.x);
-    let dy = gap(a.y, b.y);
+    let dx = u64::from(a.x.abs_diff(b.x));
+    let dy = u64::from(a.y.abs_diff(b.y));
     Spatial(root(CROW_SCALE * (dx * dx + dy * dy)) as u32)
 }
