@@ -5,13 +5,16 @@ ghost use Rattle.std.specs.Prelude.{◌≡◌, ◌*◌, ◌^◌, ◌<◌, ◌≤
 ghost use Rattle.paper.specs.Sizes.{grid_side, top_level};
 ghost use Rattle.paper.specs.Cell.{spread as spread_of, code_of};
 ghost use Rattle.paper.specs.Crow.{Root, gap, crow_across};
-ghost use Rattle.cells.specs.Cells.{OnGrid, MovedApart};
+ghost use Rattle.cells.specs.Cells.{OnGrid, MovedApart, root_limit};
 
-use paper::sizes::CROW_UNIT;
+use paper::sizes::{CROW_UNIT, GRID_SIDE};
 use paper::{Cell, Spatial};
 
 // A crow distance counts in parts of a cell's side, so its square in squares of them.
 const CROW_SCALE: u64 = CROW_UNIT * CROW_UNIT;
+
+// Every root that is asked for is below it: a crow distance is at most the sum of two gaps, each below the grid's side.
+const ROOT_LIMIT: u64 = CROW_UNIT * (2 * GRID_SIDE as u64);
 
 // The bits of x, and those of x moved up, as far as they are among `kept`.
 fn apart(x: u32, by: u32, kept: u32) -> u32
@@ -48,11 +51,20 @@ pub fn cells_under(level: u32) -> u32
     1 << (2 * level)
 }
 
-// The largest number whose square is at most n.
+// The largest number whose square is at most n. It lies from `root` on, among the next `span` numbers.
 fn root(n: u64) -> u64
+    requires { n < root_limit * root_limit }
     ensures { Root n result }
 {
-    n.isqrt()
+    let mut root = 0;
+    let mut span = ROOT_LIMIT;
+    while 1 < span {
+        let half = span / 2;
+        let middle = root + half;
+        root = if middle * middle <= n { middle } else { root };
+        span -= half;
+    }
+    root
 }
 
 // The crow distance between two cells.

@@ -35,3 +35,4 @@ pub mod Decimal
 pub mod Printed
 pub mod Words
 pub mod Host
+pub mod Numbers

@@ -19,9 +19,8 @@ use Rattle.paper.proofs.Test.{every_true}
 use Rattle.paper.proofs.Verdict.{used_of, verdict_zero, fault-same}
 use Rattle.paper.proofs.Due.{verdict_pair_due, verdict_15}
 use Rattle.truth.proofs.Scans.{every_not}
-use Rattle.truth.specs.declared.pairs.Fault.{Fault}
 use Rattle.truth.specs.Table.{used, all_used}
-use Rattle.truth.specs.Faults.{Looked, number_of}
+use Rattle.truth.specs.Faults.{Fault, Looked, number_of_check}
 use Rattle.truth.proofs.Marking.{Marks}
 
 -- number is due for u and some v below k, and nothing for u and a place before v
@@ -113,8 +112,8 @@ module _ {m : Map} (L : LaidOut m) where
           let (b, p, q) = every_not m.blocks (λ b. eqb (get_or l b 0) used) e in
           verdict_15 m d (record { rows = λ x q y r. all-clean x y q r; row = λ y r. absurd (omega arith) }) b p (unmarked-useless b p (eqb-false _ _ q))
 
-    pub number_is : number_of m.places m.blocks l f ≡ verdict m d
-    unfolding number_of
+    pub number_is : number_of_check m.places m.blocks l f ≡ verdict m d
+    unfolding number_of_check
     number_is = go (ltb f.place m.places) refl
       where
         go : (t : Bool) → ltb f.place m.places ≡ t → elim t [ true ↦ f.number | false ↦ due (all_used m.blocks l) 15 ] ≡ verdict m d
@@ -123,10 +122,10 @@ module _ {m : Map} (L : LaidOut m) where
 
 -- the number, test by test
 module _ (places blocks : ℕ) (l : List ℕ) (f : Fault) where
-  pub number_fault : f.place < places → f.number ≡ number_of places blocks l f
-  unfolding number_of
-  number_fault h = rw (lt-ltb f.place places h, number_of)
+  pub number_fault : f.place < places → f.number ≡ number_of_check places blocks l f
+  unfolding number_of_check
+  number_fault h = rw (lt-ltb f.place places h, number_of_check)
 
-  pub number_marks : places ≤ f.place → (t : Bool) → t ≡ all_used blocks l → due t 15 ≡ number_of places blocks l f
-  unfolding number_of
-  number_marks h t e = rw (le-ltb f.place places h, number_of) (ap (λ (x : Bool). due x 15) e)
+  pub number_marks : places ≤ f.place → (t : Bool) → t ≡ all_used blocks l → due t 15 ≡ number_of_check places blocks l f
+  unfolding number_of_check
+  number_marks h t e = rw (le-ltb f.place places h, number_of_check) (ap (λ (x : Bool). due x 15) e)

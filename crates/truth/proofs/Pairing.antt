@@ -21,9 +21,8 @@ use Rattle.paper.proofs.Count.{below_all}
 use Rattle.paper.proofs.Ground.{crow-same}
 use Rattle.paper.proofs.Verdict.{apart, fault_self}
 use Rattle.quadtree.proofs.Charts.{Led}
-use Rattle.truth.specs.declared.pairs.Fault.{Fault}
 use Rattle.truth.specs.Table.{marked_by, marked, marked_below}
-use Rattle.truth.specs.Faults.{Looked}
+use Rattle.truth.specs.Faults.{Fault, Looked}
 use Rattle.truth.specs.Pairs.{by_column, Own, colour_true, ratios_true}
 use Rattle.truth.proofs.Marking.{marked_self, marked-apart, marks_size}
 

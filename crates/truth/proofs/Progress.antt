@@ -13,9 +13,8 @@ use Rattle.paper.proofs.LaidOut.{LaidOut}
 use Rattle.paper.proofs.Cleared.{cleared-same}
 use Rattle.paper.proofs.Count.{below_suc}
 use Rattle.paper.proofs.Road.{distance_one}
-use Rattle.truth.specs.declared.pairs.Fault.{Fault}
 use Rattle.truth.specs.Table.{Stored, marked_below}
-use Rattle.truth.specs.Faults.{Looked, number_of}
+use Rattle.truth.specs.Faults.{Fault, Looked, number_of_check}
 use Rattle.truth.specs.Pairs.{by_column}
 use Rattle.truth.proofs.Marking.{Marks, marks_same, marks_none, marks_more}
 use Rattle.truth.proofs.Finding.{Found, found_none, found-more, looked_down, number_is}
@@ -84,7 +83,7 @@ module _ (m : Map) (before distances marks : List ℕ) (f : Fault) (long : area 
       same : cleared (n * n) distances ≡ cleared (n * n) before
       same = cleared-same (n * n) before distances P.size P.rest
 
-  whole : LaidOut m → Progress m m.places m.places before distances marks f → (r : ℕ) → r ≡ number_of m.places m.blocks marks f → CheckedOn 0 m before r distances
+  whole : LaidOut m → Progress m m.places m.places before distances marks f → (r : ℕ) → r ≡ number_of_check m.places m.blocks marks f → CheckedOn 0 m before r distances
   whole L P r e =
       subst (λ (x : ℕ). CheckedOn 0 m before x distances) (sym (e ∙ number_is L d f marks (P.found d P.columns) P.marked))
       (judged d refl long P.columns (record { size = P.size; words = λ u v p q. refl; rest = P.rest }))
@@ -92,8 +91,8 @@ module _ (m : Map) (before distances marks : List ℕ) (f : Fault) (long : area 
       d : ℕ → ℕ → ℕ
       d = table_of m.places distances
 
-  pub end_judged : (n k blocks r : ℕ) → n ≡ m.places → blocks ≡ m.blocks → k ≡ n → LaidOut m → Progress m n k before distances marks f → r ≡ number_of n blocks marks f
+  pub end_judged : (n k blocks r : ℕ) → n ≡ m.places → blocks ≡ m.blocks → k ≡ n → LaidOut m → Progress m n k before distances marks f → r ≡ number_of_check n blocks marks f
       → CheckedOn 0 m before r distances
   end_judged n k blocks r size b all L P e =
       whole L (subst (λ (x : ℕ). Progress m x x before distances marks f) size (rw all at P)) r
-      (e ∙ ap (λ (x : ℕ). number_of x blocks marks f) size ∙ ap (λ (x : ℕ). number_of m.places x marks f) b)
+      (e ∙ ap (λ (x : ℕ). number_of_check x blocks marks f) size ∙ ap (λ (x : ℕ). number_of_check m.places x marks f) b)

@@ -1,14 +1,17 @@
 -- What a look through a slice shows: of a test over its words, and of a column of distances.
-use Prim.Native.Nat.{ℕ, zero, suc, ◌+◌, ◌<◌}
+use Prim.Native.Nat.{ℕ, zero, suc, ◌+◌, ◌<◌, ◌≤◌}
 use native.Mathlib.Omega.{arith}
 use native.Mathlib.Numerals.{add-one}
-use mathlib.Core.Path.{◌≡◌, refl, sym, ◌∙◌}
+use mathlib.Core.Path.{◌≡◌, refl, sym, ap, ◌∙◌}
 use mathlib.Core.Bool.{Bool, true, false, not}
 use mathlib.Core.List.{List}
 use lib.Dec.{eqb}
-use lib.ListN.{get_or}
+use lib.ListN.{length, get_or, take}
+use Rattle.std.specs.Prelude.{◌||◌, ◌&&◌}
+use Rattle.std.specs.List.{list_any, list_all}
+use Rattle.std.proofs.lemmas.List.Folds.{list_any_more, list_all_more}
 use borrow.Author.Tests.{eqb-true, eq-eqb, not-true, not-false}
-use Rattle.paper.specs.Test.{both, every, any}
+use Rattle.paper.specs.Test.{both, either, every, any}
 use Rattle.paper.specs.Map.{Map}
 use Rattle.paper.specs.Road.{Road, IsD}
 use Rattle.paper.proofs.Test.{true_false, any_true, any_of}
@@ -26,10 +29,30 @@ every_not (suc n) f h = go (every n f) (every_not n f) (f n) refl h
     go true g false q h = (n, omega arith, q)
     go false g t q h = let (i, p, r) = g refl in (i, omega arith, r)
 
--- one more word is looked at, and the look goes on
-pub any_more : (n : ℕ) (f : ℕ → Bool) → any n f ≡ false → f n ≡ false → any (n + 1) f ≡ false
+-- the library's looks through the first n words of a slice are tests over them
+either-or : (a b : Bool) → (a || b) ≡ either a b
+either-or true b = refl
+either-or false true = refl
+either-or false false = refl
+
+both-and : (a b : Bool) → (a && b) ≡ both a b
+both-and true true = refl
+both-and true false = refl
+both-and false b = refl
+
+pub any_taken : (p : ℕ → Bool) (l : List ℕ) (n : ℕ) → n ≤ length l → list_any p (take n l) ≡ any n (λ u. p (get_or l u 0))
 unfolding any
-any_more n f h q = rw (add-one, h) q
+any_taken p l zero h = refl
+any_taken p l (suc n) h =
+    let more : list_any p (take (suc n) l) ≡ (list_any p (take n l) || p (get_or l n 0)) = rw add-one at (list_any_more p l n 0 (omega arith)) in
+    more ∙ ap (λ (b : Bool). b || p (get_or l n 0)) (any_taken p l n (omega arith)) ∙ either-or (any n (λ u. p (get_or l u 0))) (p (get_or l n 0))
+
+pub every_taken : (p : ℕ → Bool) (l : List ℕ) (n : ℕ) → n ≤ length l → list_all p (take n l) ≡ every n (λ u. p (get_or l u 0))
+unfolding every
+every_taken p l zero h = refl
+every_taken p l (suc n) h =
+    let more : list_all p (take (suc n) l) ≡ (list_all p (take n l) && p (get_or l n 0)) = rw add-one at (list_all_more p l n 0 (omega arith)) in
+    more ∙ ap (λ (b : Bool). b && p (get_or l n 0)) (every_taken p l n (omega arith)) ∙ both-and (every n (λ u. p (get_or l u 0))) (p (get_or l n 0))
 
 -- the look through a column tells whether each place has a road to v
 pub reached : (m : Map) (n v : ℕ) (column : List ℕ) → Towards m n v (λ u. get_or column u 0) → (cut : Bool) → cut ≡ any n (λ u. eqb (get_or column u 0) far)

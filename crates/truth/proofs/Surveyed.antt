@@ -13,9 +13,9 @@ use Rattle.paper.specs.Verdict.{CheckedOn, Checked, badly_laid, short}
 use Rattle.paper.proofs.LaidOut.{LaidOut}
 use Rattle.paper.proofs.Laid.{lawful_laid}
 use Rattle.sheet.specs.Book.{Book}
+use Rattle.paper.specs.Served.{served, refused}
 use Rattle.sheet.specs.Laid.{laid_of}
 use Rattle.sheet.specs.Ground.{Ground, Mapped}
-use Rattle.sheet.specs.declared.Laid.TheVariants.{Out, Refused}
 use Rattle.sheet.proofs.Room.{Room, room, laid_counts, laid_number}
 use Rattle.sheet.proofs.Grounds.{mapped_lawful, mapped_charted, laid_mapped}
 use Rattle.roads.specs.Chain.{Chainable, Chained, Starts, GoesOn}
@@ -86,22 +86,13 @@ module _ {g : List ℕ} {c : Counts} (M : Mapped g c) (bytes : Bytes g) (first t
             (book_roads laid first tails heads lengths B last₀ previous₀ last previous (omega (arith, R.places)) (omega (arith, R.stages)) (rw (R.places, R.stages) at C));
       }
 
--- the roads of a map that was surveyed, by the counts of its ground
-pub counted_roads : {g first tails heads lengths last previous : List ℕ} {m : Map} {c : Counts} → Ground g c → Surveyed g first tails heads lengths last previous m
-    → Roads m c.places tails lengths last previous
-counted_roads {tails = tails} {lengths = lengths} {last = last} {previous = previous} {m = m} G S =
-    subst (λ (n : ℕ). Roads m n tails lengths last previous) (S.charted.ground.places ∙ sym G.parts.places) S.roads
-
 -- what the layout comes to: a map to go on with, and a check of it; or a refusal
 module _ (s before : List ℕ) where
-  pub laid_checked : (c : Counts) (r : ℕ) (after : List ℕ) → Out c ≡ laid_of s → CheckedOn 0 (map_of s) before r after → Checked s before r after
+  pub laid_checked : (c : Counts) (r : ℕ) (after : List ℕ) → served c ≡ laid_of s → CheckedOn 0 (map_of s) before r after → Checked s before r after
   laid_checked c r after e = subst (λ (n : ℕ). CheckedOn n (map_of s) before r after) (sym (laid_counts s c e).0)
 
-  pub laid_refused : (r : ℕ) → Refused r ≡ laid_of s → Checked s before r before
+  pub laid_refused : (r : ℕ) → refused r ≡ laid_of s → Checked s before r before
   laid_refused r e = let (n, q, h) = laid_number s r e in subst (λ (x : ℕ). Checked s before x before) (sym q) (badly_laid h)
-
-pub laid_ground : (s : List ℕ) (c : Counts) → Out c ≡ laid_of s → Mapped s c
-laid_ground s c e = let (h, q) = laid_counts s c e in laid_mapped s c h q
 
 -- a slice that is too short
 pub short_end : (g before : List ℕ) (c : Counts) → Mapped g c → length before < c.places * c.places → CheckedOn 0 (map_of g) before 10 before

@@ -4,24 +4,26 @@
 pub mod columns;
 pub mod pairs;
 mod slices;
+mod known;
 
 ghost use Rattle.std.specs.Prelude.{◌≡◌, ◌↔◌, ◌*◌, ◌≤◌, length, take};
+ghost use Rattle.paper.specs.Refusal.{number};
 ghost use Rattle.paper.specs.Sheet.{map_of};
 ghost use Rattle.paper.specs.Verdict.{area, CheckedOn, Checked, Accepted};
-ghost use Rattle.sheet.specs.Ground.{Mapped};
 ghost use Rattle.sheet.specs.Book.{Roomy};
 ghost use Rattle.truth.specs.Roads.{Surveyed};
 
+pub use known::Survey;
+
 use crate::columns::columns;
-use paper::Counts;
+use paper::Refusal;
 use paper::sizes::{MOST_PLACES, MOST_STAGES};
-use roads::chain;
-use sheet::{Laid, layout, road_book};
+use roads::{Roads, chain};
+use sheet::{Chart, Mapped, layout};
 
 // The road book of a map that is read off the bytes, and the chains of its stages.
 pub fn survey(
-    ground: &[u8],
-    counts: Counts,
+    map: &Mapped,
     first: &mut [u32],
     tails: &mut [u32],
     heads: &mut [u32],
@@ -29,22 +31,19 @@ pub fn survey(
     last: &mut [u32],
     previous: &mut [u32],
 )
-    requires mapped { (Mapped ground.now counts) × (Roomy counts first.old tails.old heads.old lengths.old) }
-    requires places_in_bounds { (counts.places ≤ length last.old) × (counts.stages ≤ length previous.old) }
-    ensures { Surveyed ground.now first.new (take counts.stages tails.new) heads.new lengths.new last.new previous.new (map_of ground.now) }
+    requires roomy { Roomy map.now.counts first.old tails.old heads.old lengths.old }
+    requires places_in_bounds { (map.now.counts.places ≤ length last.old) × (map.now.counts.stages ≤ length previous.old) }
+    ensures { Surveyed map.now.bytes.now first.new (take map.now.counts.stages tails.new) heads.new lengths.new last.new previous.new (map_of map.now.bytes.now) }
 {
-    let stages = counts.stages;
-    road_book(ground, counts, first, tails, heads, lengths);
-    chain(&heads[..stages], counts.places, last, previous);
+    map.road_book(first, tails, heads, lengths);
+    chain(&heads[..map.counts.stages], map.counts.places, last, previous);
 }
 
 // The check of a map that is read off the bytes, with a slice that is long enough: the survey, and then column after column.
-fn fill(ground: &[u8], counts: Counts, distances: &mut [u32]) -> u32
-    requires mapped { Mapped ground.now counts }
-    requires places_in_bounds { counts.places * counts.places ≤ length distances.old }
-    ensures { CheckedOn 0 (map_of ground.now) distances.old result distances.new }
+fn fill(map: &Mapped, distances: &mut [u32]) -> Result<(), Refusal>
+    requires { map.now.counts.places * map.now.counts.places ≤ length distances.old }
+    ensures { CheckedOn 0 (map_of map.now.bytes.now) distances.old (number result) distances.new }
 {
-    let stages = counts.stages;
     let mut first = [0u32; MOST_PLACES];
     let mut tails = [0u32; MOST_STAGES];
     let mut heads = [0u32; MOST_STAGES];
@@ -52,8 +51,7 @@ fn fill(ground: &[u8], counts: Counts, distances: &mut [u32]) -> u32
     let mut last = [0u32; MOST_PLACES];
     let mut previous = [0u32; MOST_STAGES];
     survey(
-        ground,
-        counts,
+        map,
         &mut first,
         &mut tails,
         &mut heads,
@@ -61,40 +59,40 @@ fn fill(ground: &[u8], counts: Counts, distances: &mut [u32]) -> u32
         &mut last,
         &mut previous,
     );
-    columns(
-        ground,
-        counts,
-        &first,
-        &tails[..stages],
-        &heads,
-        &lengths,
-        &last,
-        &previous,
-        distances,
-    )
+    let surveyed = Survey {
+        chart: Chart {
+            ground: map.ground(),
+            first: &first,
+            heads: &heads,
+            lengths: &lengths,
+        },
+        roads: Roads {
+            tails: &tails[..map.counts.stages],
+            lengths: &lengths,
+            last: &last,
+            previous: &previous,
+            places: map.counts.places,
+        },
+    };
+    columns(&surveyed, distances)
 }
 
 // The check of a map that is read off the bytes: 10, or what the roads and the blocks come to.
-fn judge(ground: &[u8], counts: Counts, distances: &mut [u32]) -> u32
-    requires { Mapped ground.now counts }
-    ensures { CheckedOn 0 (map_of ground.now) distances.old result distances.new }
+fn judge(map: &Mapped, distances: &mut [u32]) -> Result<(), Refusal>
+    ensures { CheckedOn 0 (map_of map.now.bytes.now) distances.old (number result) distances.new }
 {
-    let places = counts.places;
-    if distances.len() < places * places {
-        return 10;
+    if distances.len() < map.counts.places * map.counts.places {
+        return Err(Refusal::TableShort);
     }
-    fill(ground, counts, distances)
+    fill(map, distances)
 }
 
-// 0 for a sheet that is laid out and tells the truth, and else the first of 1 to 6 and 10 to 15 that is due. After 0 and after 12 to 15
+// Nothing is due for a sheet that is laid out and tells the truth, and else the first of 1 to 6 and 10 to 15. Where nothing is due, and after 12 to 15,
 // word u × N + v of the slice is the road distance from u to v; after 11 the first N × N words are 0; otherwise nothing is written.
-pub fn check(sheet: &[u8], distances: &mut [u32]) -> u32
-    ensures rules { Checked sheet.now distances.old result distances.new }
-    ensures truth { area (map_of sheet.now) ≤ length distances.old → (result ≡ 0) ↔ Accepted sheet.now }
+pub fn check(sheet: &[u8], distances: &mut [u32]) -> Result<(), Refusal>
+    ensures rules { Checked sheet.now distances.old (number result) distances.new }
+    ensures truth { area (map_of sheet.now) ≤ length distances.old → (number result ≡ 0) ↔ Accepted sheet.now }
 {
-    let laid = layout(sheet);
-    match laid {
-        Laid::Out(counts) => judge(sheet, counts, distances),
-        Laid::Refused(number) => number,
-    }
+    let sheet = layout(sheet)?;
+    judge(&sheet.map, distances)
 }

@@ -1,27 +1,17 @@
 -- `truth::check` meets its contract: the map of a sheet that is laid out is judged, and the number of any other is given.
-use mathlib.Core.Path.{◌≡◌, sym, ◌∙◌}
-use native.Mathlib.Omega.{arith}
-use Rattle.paper.specs.Layout.{Bytes}
+use Rattle.std.proofs.lemmas.Result.{err_from_is_err_and}
 use Rattle.paper.proofs.Laid.{laid_out}
 use Rattle.paper.proofs.Checked.{checked_truth}
-use Rattle.sheet.specs.Laid.{laid_of}
-use Rattle.sheet.specs.declared.Laid.{Laid}
-use Rattle.truth.proofs.Surveyed.{laid_ground, laid_checked, laid_refused}
-use Rattle.truth.proofs.check.Goals.{After-layout-laid}
+use Rattle.truth.proofs.Surveyed.{laid_checked, laid_refused}
 use Rattle.truth.proofs.check.Goals as goal
 
-bytes : (c : After-layout-laid) → Bytes c.args.sheet.now
-bytes c k p = omega (arith, c.type_inv.sheet k)
+pub returns-in_err-sheet : goal.returns-in_err-sheet
+returns-in_err-sheet c =
+    let p = err_from_is_err_and c.from_residual.result c.from_residual.ensures.1 in
+    let ended = laid_refused _ _ _ c.in_err-sheet.ensures.counts in
+    rw (p.1, p.2) (record { rules = ended; truth = λ long. checked_truth (laid_out _ (λ i p. (c.type_inv.sheet i).fits)) long ended })
 
--- the layout comes to what the match sees
-comes : (c : After-layout-laid) (r : Laid) → c.layout-laid.result ≡ r → r ≡ laid_of c.args.sheet.now
-comes c r e = sym e ∙ c.layout-laid.ensures
-
-pub judge-requires : goal.judge-requires
-judge-requires c = laid_ground _ _ (comes (goal.at.judge-requires c).After-layout-laid _ c.in-Out.is)
-
-pub returns-in-Out : goal.returns-in-Out
-returns-in-Out c = let ended = laid_checked _ _ _ _ _ (comes (goal.at.returns-in-Out c).After-layout-laid _ c.in-Out.is) c.judge.ensures in record { rules = ended; truth = λ long. checked_truth (laid_out _ (bytes (goal.at.returns-in-Out c).After-layout-laid)) long ended }
-
-pub returns-in-Refused : goal.returns-in-Refused
-returns-in-Refused c = let ended = laid_refused _ _ _ (comes (goal.at.returns-in-Refused c).After-layout-laid _ c.in-Refused.is) in record { rules = ended; truth = λ long. checked_truth (laid_out _ (bytes (goal.at.returns-in-Refused c).After-layout-laid)) long ended }
+pub returns : goal.returns
+returns c =
+    let ended = laid_checked _ _ _ _ _ c.in_ok-sheet.ensures.counts (rw c.in_ok-sheet.ensures.parts.0 at c.judge.ensures) in
+    record { rules = ended; truth = λ long. checked_truth (laid_out _ (λ i p. (c.type_inv.sheet i).fits)) long ended }

@@ -5,8 +5,8 @@ use Rattle.sheet.proofs.Room.{room}
 use Rattle.truth.proofs.Surveyed.{short_end}
 use Rattle.truth.proofs.judge.Goals as goal
 
-pub overflow_mul-places : goal.overflow_mul-places
-overflow_mul-places c = let n = (room _ _ c.requires.parts).within.places in omega (arith, mul-le-mul n n)
+pub overflow_mul-map : goal.overflow_mul-map
+overflow_mul-map c = let n = (room _ _ c.args.map.now.keeps.parts).within.places in omega (arith, mul-le-mul n n)
 
-pub returns-then-distances-places : goal.returns-then-distances-places
-returns-then-distances-places c = short_end _ _ _ c.requires (omega arith)
+pub returns-then-distances-map : goal.returns-then-distances-map
+returns-then-distances-map c = short_end _ _ _ c.args.map.now.keeps (omega arith)

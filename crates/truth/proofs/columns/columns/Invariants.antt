@@ -4,7 +4,7 @@ use Rattle.truth.proofs.Filling.{Filling}
 use Rattle.truth.proofs.columns.columns.Given as goal
 
 abbrev pub invariant-loop-v : goal.invariant-loop-v
-invariant-loop-v l = Filling l.ground l.first l.tails l.heads l.lengths l.last l.previous l.counts l.initial.distances l.distances l.marks l.column l.fault l.v
+invariant-loop-v l = Filling l.survey l.initial.distances l.distances l.marks l.column l.fault l.v
 
 abbrev pub decreases-loop-v : goal.decreases-loop-v
 decreases-loop-v l = l.places - l.v

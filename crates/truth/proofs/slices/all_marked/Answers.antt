@@ -1,27 +1,35 @@
--- `truth::slices::all_marked` meets its contract. The invariant: every block below b is marked.
+-- `truth::slices::all_marked` meets its contract. The invariant: every block that was looked at is marked.
 use mathlib.Core.Path.{◌≡◌, refl, sym}
 use native.Mathlib.Omega.{arith}
-use borrow.Author.Tests.{eq-eqb, ne_eqb}
+use Prim.Native.Nat.{◌<◌}
 use lib.Dec.{eqb}
 use lib.ListN.{get_or}
+use lib.Seq.{length-take-le, get_or-take}
+use borrow.Author.Tests.{eq-eqb, ne_eqb}
 use Rattle.paper.specs.Test.{every}
 use Rattle.paper.proofs.Test.{every_false, every_more}
 use Rattle.truth.specs.Table.{used}
 use Rattle.truth.proofs.slices.all_marked.Goals as goal
 
-pub loop-b-init : goal.loop-b-init
+pub loop-mark-init : goal.loop-mark-init
 unfolding every
-loop-b-init c = (omega arith, refl)
+loop-mark-init c = (omega arith, refl)
 
-pub returns-then-marks-b-ne-USED : goal.returns-then-marks-b-ne-USED
-returns-then-marks-b-ne-USED c =
+pub returns-then-mark-ne-USED : goal.returns-then-mark-ne-USED
+returns-then-mark-ne-USED c =
     let a = c.args in
-    sym (every_false a.n (λ b. eqb (get_or a.marks.now b 0) used) c.loop-b.b (omega arith) (ne_eqb _ _ c.if-marks-b-ne-USED.true))
+    let i = c.loop-mark.mark-index in
+    let p : i < a.n = omega (arith, length-take-le _ _ c.requires, c.loop-mark-test.true) in
+    sym (every_false a.n (λ b. eqb (get_or a.marks.now b 0) used) i p (ne_eqb _ _ (rw (get_or-take a.n a.marks.now i 0 p) at c.if-mark-ne-USED.true)))
 
-pub loop-b-preserved : goal.loop-b-preserved
-loop-b-preserved c = (omega arith, every_more _ _ c.loop-b.invariant.1 (eq-eqb _ _ c.if-marks-b-ne-USED.false))
+pub loop-mark-preserved : goal.loop-mark-preserved
+loop-mark-preserved c =
+    let a = c.args in
+    let i = c.loop-mark.mark-index in
+    let p : i < a.n = omega (arith, length-take-le _ _ c.requires, c.loop-mark-test.true) in
+    (omega (arith, p), every_more _ _ c.loop-mark.invariant.1 (eq-eqb _ _ (rw (get_or-take a.n a.marks.now i 0 p) at c.if-mark-ne-USED.false)))
 
 pub returns : goal.returns
 returns c =
-    let e : c.loop-b.b ≡ c.args.n = omega arith in
-    sym (rw e at c.loop-b.invariant.1)
+    let e : c.loop-mark.mark-index ≡ c.args.n = omega (arith, length-take-le _ _ c.requires, c.loop-mark.invariant.0, c.loop-mark-test.false) in
+    sym (rw e at c.loop-mark.invariant.1)
