@@ -1,5 +1,6 @@
 -- One step of the code is one step of the definitions, on a map of so many places, for a quest of n offices.
-use Prim.Native.Nat.{ℕ}
+use Prim.Native.Nat.{ℕ, ◌<◌}
+use native.Mathlib.Omega.{arith}
 use mathlib.Core.Path.{◌≡◌, sym, subst, ◌∙◌}
 use mathlib.Core.Bool.{true, false}
 use mathlib.Core.List.{List}
@@ -9,6 +10,11 @@ use Rattle.paper.specs.Quest.{Quest}
 use Rattle.paper.specs.Trail.{Trail, refine}
 use Rattle.paper.specs.Listing.{Slot, State, refined, step}
 use Rattle.paper.specs.Bounds.{Sane}
+use Rattle.paper.specs.declared.Counts.{Counts}
+use Rattle.paper.proofs.Bounds.{refine_sane}
+use Rattle.sheet.specs.Ground.{Ground, Charted}
+use Rattle.quadtree.proofs.Charts.{laid}
+use Rattle.quadtree.proofs.Words.{standing}
 use Rattle.quadtree.specs.Walks.{trail_of}
 use Rattle.nearest.specs.declared.tree.Lead.{Lead}
 use Rattle.nearest.specs.Working.{Shown}
@@ -49,3 +55,12 @@ module _ (m : Map) (x : Quest) (places n : ℕ) (p : places ≡ m.places) (same 
 -- the leader that was taken out can be put back
 pub one_out : {places n : ℕ} {ss : List Slot} {w : List ℕ} {l : Lead} → Led places n ss w l → (t : Trail) → Sane places t → OneOut n l.number w t
 one_out {places} {n} {ss} L t S = record { places = places; slots = ss; here = L.here; shown = L.shown; sane = S }
+
+-- on a map that has the ground as many places are counted, and a trail of it stays sane
+module _ {g first heads lengths : List ℕ} {c : Counts} {m : Map} (G : Ground g c) (C : Charted g first heads lengths m) where
+  pub counted : c.places ≡ m.places
+  counted = (standing G).places ∙ sym C.ground.places
+
+  pub refined_sane : (v : ℕ) → v < c.places → (t t' : Trail) → Sane c.places t → served t' ≡ refine m v t → Sane c.places t'
+  refined_sane v p t t' S e =
+      subst (λ (n : ℕ). Sane n t') (sym counted) (refine_sane (laid C) v (omega (arith, counted)) t t' (subst (λ (n : ℕ). Sane n t) counted S) (sym e))

@@ -11,6 +11,5 @@ pub mod Quests
 pub mod Replies
 pub mod Advance
 pub mod Progress
-pub mod Arrays
 pub mod Asking
 pub mod Asked

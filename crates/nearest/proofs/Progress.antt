@@ -6,12 +6,14 @@ use mathlib.Core.Path.{◌≡◌, sym, subst}
 use mathlib.Core.List.{List}
 use lib.ListN.{length}
 use Rattle.paper.specs.Sizes.{line_words, most_offices, most_places}
+use Rattle.std.specs.Prelude.{Ok, Err}
 use Rattle.paper.specs.Served.{Served, refused}
+use Rattle.paper.specs.Refusal.{number_of}
+use Rattle.paper.specs.declared.refusal.Refusal.{Refusal}
 use Rattle.paper.specs.Map.{Map}
 use Rattle.paper.specs.Quest.{Quest}
 use Rattle.paper.specs.Trail.{Trail}
 use Rattle.paper.specs.Listing.{Slot, State, at, line_of, step, begin, run, enough}
-use Rattle.nearest.specs.declared.walk.Walked.TheVariants as walked
 use Rattle.nearest.specs.Working.{Shown}
 use Rattle.nearest.specs.Going.{Fresh, Waiting, Wrote, ListedNow, WalkedNow, Came}
 use Rattle.nearest.proofs.Going.{Going, going-begin, going-most, going_done, going-waits, going-refused, going-listed, going-walked}
@@ -72,8 +74,8 @@ module _ {m : Map} {x : Quest} {k : ℕ} {goal : Served State} {w a₀ a : List 
     unfolding going-walked
     progress-walked w' W = record { going = going-walked m x k G h most w' W; text = P.text }
 
-    pub progress-refused : (n : ℕ) → step m x st ≡ refused n → Came k goal a₀ a (walked.Refused n)
-    progress-refused n e = (going-refused m x k G h most n e, record { long = P.text.long; rest = λ j p. P.text.rest j (omega (arith, G.counted)) })
+    pub progress-refused : (r : Refusal) → step m x st ≡ refused (number_of r) → Came k goal a₀ a (Err r)
+    progress-refused r e = (going-refused m x k G h most (number_of r) e, record { long = P.text.long; rest = λ j p. P.text.rest j (omega (arith, G.counted)) })
 
-  pub progress_done : k ≤ r → line_words * k ≤ length a₀ → Came k goal a₀ a (walked.Done total)
+  pub progress_done : k ≤ r → line_words * k ≤ length a₀ → Came k goal a₀ a (Ok total)
   progress_done h long = (st, going_done m x k G h, G.made, text_whole a₀ a st.lines k P.text (omega (arith, G.counted, G.few)) long)

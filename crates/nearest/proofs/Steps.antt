@@ -4,12 +4,9 @@ use mathlib.Core.Path.{◌≡◌, ap, ◌∙◌}
 use mathlib.Core.Bool.{Bool, true, false}
 use mathlib.Core.Option.{some}
 use Rattle.paper.specs.Served.{Served, refused, served, and_then}
-use Rattle.paper.specs.declared.Trail as code
 use Rattle.paper.specs.Map.{Map}
 use Rattle.paper.specs.Quest.{Quest}
 use Rattle.paper.specs.Trail.{Trail, refine}
-use Rattle.quadtree.specs.Walks.{trail_of, trail_by, step_of}
-use Rattle.quadtree.specs.declared.walk.Step.TheVariants as step
 use Rattle.paper.specs.Listing.{State, at, leader, retired, clear, listed, walked_on, move, step}
 
 module _ (m : Map) (x : Quest) (st : State) (i : ℕ) (L : leader st.slots x.count ≡ some i) where
@@ -34,12 +31,3 @@ module _ (m : Map) (x : Quest) (st : State) (i : ℕ) (L : leader st.slots x.cou
 
   pub step_refused : alone ≡ false → (n : ℕ) → refined-once ≡ refused n → step m x st ≡ refused n
   step_refused e n r = step-led ∙ ap (λ (b : Bool). moved b refined-once) e ∙ ap (moved false) r
-
--- what an answer of the code says of the definitions' one
-pub step_to : (r : Served Trail) (t : code.Trail) → step.To t ≡ step_of r → r ≡ served (trail_of t)
-step_to (refused n) t e = let z : step.To t ≡ step.Refused n = e in cc
-step_to (served r) t e = let z : step.To t ≡ step.To (trail_by r) = e in let y : t ≡ trail_by r = cc in rw y
-
-pub step_no : (r : Served Trail) (n : ℕ) → step.Refused n ≡ step_of r → r ≡ refused n
-step_no (refused k) n e = let z : step.Refused n ≡ step.Refused k = e in cc
-step_no (served r) n e = let z : step.Refused n ≡ step.To (trail_by r) = e in cc

@@ -1,8 +1,11 @@
 -- What a step of the code and a whole walk come to, beside the definitions' step and run.
-use Rattle.std.specs.Prelude.{ℕ, ◌+◌, ◌*◌, ◌≤◌, ◌<◌, ◌≡◌, true, List, ◌++◌, length, get_or, set, drop}
+use Rattle.std.specs.Prelude.{ℕ, ◌+◌, ◌*◌, ◌≤◌, ◌<◌, ◌≡◌, true, List, ◌++◌, length, get_or, set, drop, Option, Some, None, Result, Ok, Err}
 use Rattle.std.proofs.Math.Option.{some}
 use Rattle.paper.specs.Sizes.{line_words}
 use Rattle.paper.specs.Served.{Served, refused, served}
+use Rattle.paper.specs.Refusal.{number_of}
+use Rattle.paper.specs.declared.Trail as code
+use Rattle.paper.specs.declared.refusal.Refusal.{Refusal}
 use Rattle.paper.specs.Map.{Map}
 use Rattle.paper.specs.Quest.{Quest}
 use Rattle.paper.specs.Trail.{Trail, start}
@@ -10,14 +13,15 @@ use Rattle.paper.specs.Listing.{Slot, Line, State, at, leader, clear, retired, r
 use Rattle.paper.specs.Reply.{line_out, lines_out}
 use Rattle.paper.specs.Bounds.{Sane}
 use Rattle.nearest.specs.Working.{tree_at, key, Stored, Shown, Beyond}
+use Rattle.sheet.specs.Charts.{OnChart}
+use Rattle.sheet.specs.declared.ground.Chart.{Chart}
 use Rattle.quadtree.specs.Walks.{trail_of}
 use Rattle.nearest.specs.declared.tree.Lead.{Lead}
-use Rattle.nearest.specs.declared.walk.Moved.{Moved}
-use Rattle.nearest.specs.declared.walk.Moved.TheVariants as moved
-use Rattle.nearest.specs.declared.walk.Started.{Started}
-use Rattle.nearest.specs.declared.walk.Started.TheVariants as started
-use Rattle.nearest.specs.declared.walk.Walked.{Walked}
-use Rattle.nearest.specs.declared.walk.Walked.TheVariants as walked
+
+-- some map has the chart: without one a walk need not come to an end
+pub record SomeMap (c : Chart) : Type 0 where
+  pub map : Map
+  pub on : OnChart c map
 
 -- line r of the answer slice becomes l
 pub record Wrote (r : ℕ) (l : Line) (a a' : List ℕ) : Type 0 where
@@ -35,9 +39,9 @@ pub record StartedNow (m : Map) (x : Quest) (i : ℕ) (w w' : List ℕ) : Type 0
   pub stored : Stored i trail w side
   pub written : w' ≡ set side (tree_at x.count + (x.count + i)) (key trail.low i)
 
-abbrev pub OneStarted : Map → Quest → ℕ → List ℕ → List ℕ → Started → Type 0
-OneStarted m x i w w' started.Ready = StartedNow m x i w w'
-OneStarted m x i w w' (started.Refused n) = start m (x.from i) (x.to i) ≡ refused n
+abbrev pub OneStarted : Map → Quest → ℕ → List ℕ → List ℕ → Result (Unit {0}) Refusal → Type 0
+OneStarted m x i w w' (Ok u) = StartedNow m x i w w'
+OneStarted m x i w w' (Err r) = start m (x.from i) (x.to i) ≡ refused (number_of r)
 
 -- each of n offices waits, with no stage walked
 pub record Fresh (n : ℕ) (ss : List Slot) : Type 0 where
@@ -54,9 +58,9 @@ pub record StartedAll (m : Map) (x : Quest) (w : List ℕ) : Type 0 where
   pub begun : Begun m.places x.count w
   pub starts : starts m x x.count ≡ served begun.slots
 
-abbrev pub AllStarted : Map → Quest → List ℕ → Started → Type 0
-AllStarted m x w started.Ready = StartedAll m x w
-AllStarted m x w (started.Refused n) = starts m x x.count ≡ refused n
+abbrev pub AllStarted : Map → Quest → List ℕ → Result (Unit {0}) Refusal → Type 0
+AllStarted m x w (Ok u) = StartedAll m x w
+AllStarted m x w (Err r) = starts m x x.count ≡ refused (number_of r)
 
 -- some office waits
 pub record Waiting (places n : ℕ) (w : List ℕ) : Type 0 where
@@ -102,13 +106,16 @@ pub record WalkedNow (m : Map) (x : Quest) (st : State) (w : List ℕ) : Type 0 
   pub stepped : step m x st ≡ served (walked_on st number trail)
   pub shown : Shown m.places x.count w (refined st.slots number trail)
 
--- the step from st, where the working slice at exit is w
-abbrev pub Stepped : Map → Quest → State → List ℕ → Moved → Type 0
-Stepped m x st w (moved.Listed i t) = ListedNow m x st w i (trail_of t)
-Stepped m x st w moved.Refined = WalkedNow m x st w
-Stepped m x st w (moved.Refused n) = step m x st ≡ refused n
+-- the step from st, where the working slice at exit is w: some office is listed with its trail, or none
+abbrev pub Moved : Map → Quest → State → List ℕ → Option (ℕ × code.Trail) → Type 0
+Moved m x st w (Some l) = ListedNow m x st w l.0 (trail_of l.1)
+Moved m x st w None = WalkedNow m x st w
+
+abbrev pub Stepped : Map → Quest → State → List ℕ → Result (Option (ℕ × code.Trail)) Refusal → Type 0
+Stepped m x st w (Ok l) = Moved m x st w l
+Stepped m x st w (Err r) = step m x st ≡ refused (number_of r)
 
 -- the walk whose outcome by the definitions is r, for k offices; the answer slice at entry and at exit
-abbrev pub Came : ℕ → Served State → List ℕ → List ℕ → Walked → Type 0
-Came k r answer answer' (walked.Done total) = (st : State) × (r ≡ served st) × (st.total ≡ total) × (answer' ≡ lines_out st.lines ++ drop (line_words * k) answer)
-Came k r answer answer' (walked.Refused n) = (r ≡ refused n) × Beyond (line_words * k) answer answer'
+abbrev pub Came : ℕ → Served State → List ℕ → List ℕ → Result ℕ Refusal → Type 0
+Came k r answer answer' (Ok total) = (st : State) × (r ≡ served st) × (st.total ≡ total) × (answer' ≡ lines_out st.lines ++ drop (line_words * k) answer)
+Came k r answer answer' (Err n) = (r ≡ refused (number_of n)) × Beyond (line_words * k) answer answer'

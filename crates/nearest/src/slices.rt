@@ -1,14 +1,13 @@
 // What is written to the lent slices, and read from them.
 ghost use Rattle.std.specs.Prelude.{◌≡◌, ◌+◌, ◌*◌, ◌^◌, ◌≤◌, ◌<◌, length};
 ghost use Rattle.paper.specs.Sizes.{line_words, most_offices};
-ghost use Rattle.paper.specs.Slice.{cleared as clearedOf};
 ghost use Rattle.paper.specs.Listing.{line_with};
 ghost use Rattle.nearest.specs.Working.{side_words, key as key_of, Side, Stored};
 ghost use Rattle.quadtree.specs.Walks.{trail_of};
 ghost use Rattle.nearest.specs.Going.{Wrote};
 
 use paper::sizes::{LINE_WORDS, MOST_OFFICES, SLOT_WORDS};
-use paper::{Network, Trail, long_furlongs};
+use paper::{Network, Trail};
 
 // More than any number of an office.
 pub const PACK: u64 = MOST_OFFICES as u64;
@@ -36,28 +35,18 @@ pub fn store(working: &mut [u64], i: usize, t: Trail)
     working[at + 3] = t.stages as u64;
 }
 
-fn narrow(x: u64) -> usize
-    ensures { result ≡ x }
-{
-    x as usize
-}
-
 // The trail of office i, whose low end the tree has.
 pub fn trail_at(working: &[u64], i: usize, low: Network) -> Trail
     requires { side_words * i + side_words ≤ length working.now }
     ensures { (Side working.now i (trail_of result)) × (result.low.0 ≡ low.0) }
 {
     let at = SIDE_WORDS * i;
-    let via = narrow(working[at]);
-    let walked = long_furlongs(working[at + 1]);
-    let high = long_furlongs(working[at + 2]);
-    let stages = narrow(working[at + 3]);
     Trail {
-        via,
-        walked,
+        via: working[at] as usize,
+        walked: Network(working[at + 1]),
         low,
-        high,
-        stages,
+        high: Network(working[at + 2]),
+        stages: working[at + 3] as usize,
     }
 }
 
@@ -72,14 +61,4 @@ pub fn write_line(answer: &mut [u64], r: usize, i: usize, t: Trail, gazetteer: u
     answer[at + 2] = t.high.0;
     answer[at + 3] = t.stages as u64;
     answer[at + 4] = gazetteer as u64;
-}
-
-// The first n words become 0.
-pub fn clear(slice: &mut [u64], n: usize)
-    requires { n ≤ length slice.old }
-    ensures { slice.new ≡ clearedOf n slice.old }
-{
-    for i in 0..n {
-        slice[i] = 0;
-    }
 }

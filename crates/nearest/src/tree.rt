@@ -9,7 +9,7 @@ ghost use Rattle.nearest.specs.Going.{SomeWaits, Led, OneOut};
 
 use crate::slices::{PACK, SIDE_WORDS, key, store, trail_at};
 use mintree::{change, top};
-use paper::{Trail, long_furlongs};
+use paper::{Network, Trail};
 
 // The word of an office that no longer waits.
 const GONE: u64 = 0xffff_ffff_ffff_ffff;
@@ -31,7 +31,7 @@ pub fn take_leader(working: &mut [u64], n: usize) -> Lead
     let tree = SIDE_WORDS * n;
     let least = top(working, tree, n);
     let number = (least % PACK) as usize;
-    let trail = trail_at(working, number, long_furlongs(least / PACK));
+    let trail = trail_at(working, number, Network(least / PACK));
     change(working, tree, n, number, GONE);
     let rest = top(working, tree, n);
     let high = trail.high;
