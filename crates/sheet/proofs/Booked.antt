@@ -3,10 +3,14 @@ use Prim.Native.Nat.{ℕ, ◌+◌, ◌*◌, ◌≤◌, ◌<◌}
 use native.Mathlib.Omega.{arith}
 use native.Mathlib.Decide.{ℕ_discrete, dec_lt}
 use mathlib.Core.Path.{◌≡◌, refl, ◌∙◌}
-use mathlib.Core.Bool.{true}
+use mathlib.Core.Bool.{true, false}
 use mathlib.Core.List.{List}
-use lib.ListN.{length, get_or, set, replicate, length-replicate}
-use lib.Seq.{get_or-set_same, get_or-set_other}
+use lib.Dec.{ltb}
+use lib.ListN.{length, get_or, set, take, replicate, length-replicate}
+use lib.Seq.{get_or-set_same, get_or-set_other, get_or-take, length-take-le}
+use borrow.Author.Tests.{ltb-true, ltb-false}
+use Rattle.std.specs.List.Sorted.{IsNonDecreasingBy, IsPartitionPoint, IsPartitionedBy}
+use Rattle.std.proofs.lemmas.List.Sorted.{IsPartitionedBy-ltb, IsNonDecreasingBy-from_default}
 use Rattle.paper.specs.declared.Counts.{Counts}
 use Rattle.paper.specs.Map.{Map}
 use Rattle.paper.specs.Stage.{stages_below, stage_of}
@@ -16,7 +20,7 @@ use Rattle.paper.specs.Slice.{Untouched}
 use Rattle.paper.specs.Layout.{stages_hold}
 use Rattle.paper.proofs.Laid.{stages_ok}
 use Rattle.paper.proofs.Stages.{Parts, begins}
-use Rattle.sheet.specs.Book.{Leads, Book, Filled, Begins, Next, Ascending, Roomy}
+use Rattle.sheet.specs.Book.{Leads, Book, Filled, Begins, Ascending, Roomy}
 use Rattle.sheet.specs.Laid.{Within}
 
 pub filled_start : (f : ℕ → ℕ) (l : List ℕ) → Filled 0 f l l
@@ -31,42 +35,44 @@ filled_step f i x old l F p e = record { words = words; beyond = λ k q. get_or-
       | no d ↦ rw (get_or-set_other l i k x 0 d) (F.words k (omega arith))
     ]
 
--- the places below u have their word, and the stages before i leave one of them
-pub record Begun (tails : List ℕ) (n u i : ℕ) (old l : List ℕ) : Type 0 where
-  pub upto : i ≤ n
-  pub low : (k : ℕ) → k < i → get_or tails k 0 < u
+-- what `partition_point` asks of the first n tails, and what it answers
+module _ (tails : List ℕ) (n u : ℕ) (p : n ≤ length tails) where
+  at : (i : ℕ) → i < n → get_or (take n tails) i 0 ≡ get_or tails i 0
+  at i q = get_or-take n tails i 0 q
+
+  pub parted_by : Ascending tails n → IsPartitionedBy (λ t. ltb t u) (take n tails)
+  parted_by up = IsPartitionedBy-ltb (λ t. t) _ u (IsNonDecreasingBy-from_default (λ t. t) _ 0 sorted)
+    where
+      sorted : (i j : ℕ) → i ≤ j → j < length (take n tails) → get_or (take n tails) i 0 ≤ get_or (take n tails) j 0
+      sorted i j q r =
+          let s : j < n = omega (arith, length-take-le n tails p) in
+          elim (ℕ_discrete i j) [ yes e ↦ rw e (omega arith) | no e ↦ omega (arith, at i (omega arith), at j s, up i j (omega arith) s) ]
+
+  pub begins_by : (b : ℕ) → b ≤ length (take n tails) → IsPartitionPoint (λ t. ltb t u ≡ true) (λ t. ltb t u ≡ false) (take n tails) b → Begins tails n u b
+  begins_by b q point =
+      let size : length (take n tails) ≡ n = length-take-le n tails p in
+      record {
+        most = omega arith;
+        low = λ i l. rw (at i (omega arith)) at (ltb-true _ _ (point.0 i 0 (omega arith) l));
+        high = λ i l m. rw (at i m) at (ltb-false _ _ (point.1 i 0 l (omega arith)));
+      }
+
+-- the places below u have their word
+pub record Begun (tails : List ℕ) (n u : ℕ) (old l : List ℕ) : Type 0 where
   pub each : (v : ℕ) → v < u → Begins tails n v (get_or l v 0)
   pub beyond : Untouched u old l
 
-pub begun_start : (tails : List ℕ) (n : ℕ) (l : List ℕ) → Begun tails n 0 0 l l
-begun_start tails n l = record { upto = omega arith; low = λ k p. absurd (omega arith); each = λ v p. absurd (omega arith); beyond = λ k p. refl }
+pub begun_start : (tails : List ℕ) (n : ℕ) (l : List ℕ) → Begun tails n 0 l l
+begun_start tails n l = record { each = λ v p. absurd (omega arith); beyond = λ k p. refl }
 
-module _ (tails : List ℕ) (n : ℕ) (up : Ascending tails n) (u i : ℕ) (old l : List ℕ) (B : Begun tails n u i old l) (r : ℕ) (N : Next tails n u i r) where
-  parts : Begins tails n u r
-  parts = record { most = N.most; low = low; high = high }
-    where
-      low : (k : ℕ) → k < r → get_or tails k 0 < u
-      low k p = elim (dec_lt k i) [ yes q ↦ B.low k q | no q ↦ N.low k (omega arith) p ]
-
-      high : (k : ℕ) → r ≤ k → k < n → u ≤ get_or tails k 0
-      high k p q = elim (ℕ_discrete r k) [
-        | yes e ↦ rw e at (N.high (omega arith))
-        | no e ↦ omega (arith, N.high (omega arith), up r k (omega arith) q)
-      ]
-
-  pub begun_step : u < length l → Begun tails n (u + 1) r old (set l u r)
-  begun_step p = record {
-    upto = N.most;
-    low = λ k q. omega (arith, parts.low k q);
-    each = each;
-    beyond = λ k q. get_or-set_other l u k r 0 (λ d. omega arith) ∙ B.beyond k (omega arith);
-  }
-    where
-      each : (v : ℕ) → v < u + 1 → Begins tails n v (get_or (set l u r) v 0)
-      each v q = elim (ℕ_discrete v u) [
-        | yes d ↦ rw (d, get_or-set_same l u r 0 p) parts
-        | no d ↦ rw (get_or-set_other l u v r 0 d) (B.each v (omega arith))
-      ]
+pub begun_step : (tails : List ℕ) (n u b : ℕ) (old l : List ℕ) → Begun tails n u old l → u < length l → Begins tails n u b → Begun tails n (u + 1) old (set l u b)
+begun_step tails n u b old l B p here = record { each = each; beyond = λ k q. get_or-set_other l u k b 0 (λ d. omega arith) ∙ B.beyond k (omega arith) }
+  where
+    each : (v : ℕ) → v < u + 1 → Begins tails n v (get_or (set l u b) v 0)
+    each v q = elim (ℕ_discrete v u) [
+      | yes d ↦ rw (d, get_or-set_same l u b 0 p) here
+      | no d ↦ rw (get_or-set_other l u v b 0 d) (B.each v (omega arith))
+    ]
 
 -- what parts the tails of a map is where the stages begin
 module _ (m : Map) (sorted : (i j : ℕ) → i < j → j < m.stages → m.tail i ≤ m.tail j) (tails : List ℕ) (same : (i : ℕ) → i < m.stages → get_or tails i 0 ≡ m.tail i) where

@@ -46,13 +46,6 @@ pub record Begins (tails : List ℕ) (n u b : ℕ) : Type 0 where
   pub low : (i : ℕ) → i < b → get_or tails i 0 < u
   pub high : (i : ℕ) → b ≤ i → i < n → u ≤ get_or tails i 0
 
--- r is the first from a on, up to n, that is not below u
-pub record Next (tails : List ℕ) (n u a r : ℕ) : Type 0 where
-  pub least : a ≤ r
-  pub most : r ≤ n
-  pub low : (i : ℕ) → a ≤ i → i < r → get_or tails i 0 < u
-  pub high : r < n → u ≤ get_or tails r 0
-
 -- the first n tails ascend
 abbrev pub Ascending : List ℕ → ℕ → Type 0
 Ascending tails n = (i j : ℕ) → i < j → j < n → get_or tails i 0 ≤ get_or tails j 0

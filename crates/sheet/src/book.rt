@@ -3,7 +3,7 @@ ghost use Rattle.std.specs.Prelude.{ℕ, ◌+◌, ◌*◌, ◌≤◌, ◌<◌, l
 ghost use Rattle.paper.specs.Sizes.{stage_words, most_places, most_stages};
 ghost use Rattle.paper.specs.Sheet.{word as word_of};
 ghost use Rattle.paper.specs.Slice.{Untouched};
-ghost use Rattle.sheet.specs.Book.{Filled, Begins, Next, Ascending};
+ghost use Rattle.sheet.specs.Book.{Filled, Begins, Ascending};
 
 use crate::word;
 use paper::sizes::STAGE_WORDS;
@@ -18,31 +18,14 @@ pub fn column(sheet: &[u8], base: usize, n: usize, out: &mut [u32])
     }
 }
 
-// The first from `from` on, up to n, whose tail is not below u.
-fn next(tails: &[u32], n: usize, from: usize, u: u32) -> usize
-    requires { (n ≤ length tails.now) × (from ≤ n) }
-    ensures { Next tails.now n u from result }
-{
-    let mut i = from;
-    while i < n {
-        if tails[i] >= u {
-            return i;
-        }
-        i += 1;
-    }
-    i
-}
-
-// Where the stages that leave each place begin: one way through the tails, place after place.
+// Where the stages that leave each place begin, by the tails, which ascend.
 pub fn starts(tails: &[u32], n: usize, places: usize, first: &mut [u32])
     requires n_in_bounds { (n ≤ length tails.now) × (n ≤ most_stages) × (places ≤ length first.old) × (places ≤ most_places) }
     requires ascending { Ascending tails.now n }
     ensures by_index { (u : ℕ) → u < places → Begins tails.now n u (get_or first.new u 0) }
     ensures untouched { Untouched places first.old first.new }
 {
-    let mut i = 0;
     for u in 0..places {
-        i = next(tails, n, i, u as u32);
-        first[u] = i as u32;
+        first[u] = tails[..n].partition_point(|&tail| (tail as usize) < u) as u32;
     }
 }
