@@ -2,38 +2,25 @@
 use Prim.Native.Nat.{ℕ, ◌+◌, ◌*◌, ◌≤◌, ◌<◌}
 use native.Mathlib.Omega.{arith}
 use native.Mathlib.Decide.{ℕ_discrete, dec_lt}
-use mathlib.Core.Path.{◌≡◌, refl, ◌∙◌}
+use mathlib.Core.Path.{◌≡◌}
 use mathlib.Core.Bool.{true, false}
 use mathlib.Core.List.{List}
 use lib.Dec.{ltb}
-use lib.ListN.{length, get_or, set, take, replicate, length-replicate}
-use lib.Seq.{get_or-set_same, get_or-set_other, get_or-take, length-take-le}
+use lib.ListN.{length, get_or, take, replicate, length-replicate}
+use lib.Seq.{get_or-take, length-take-le}
 use borrow.Author.Tests.{ltb-true, ltb-false}
-use Rattle.std.specs.List.Sorted.{IsNonDecreasingBy, IsPartitionPoint, IsPartitionedBy}
+use Rattle.std.specs.List.Sorted.{IsPartitionPoint, IsPartitionedBy}
 use Rattle.std.proofs.lemmas.List.Sorted.{IsPartitionedBy-ltb, IsNonDecreasingBy-from_default}
 use Rattle.paper.specs.declared.Counts.{Counts}
 use Rattle.paper.specs.Map.{Map}
 use Rattle.paper.specs.Stage.{stages_below, stage_of}
 use Rattle.paper.specs.Sheet.{word, stages_at, map_of}
 use Rattle.paper.specs.Sizes.{stage_words, most_places, most_stages}
-use Rattle.paper.specs.Slice.{Untouched}
 use Rattle.paper.specs.Layout.{stages_hold}
 use Rattle.paper.proofs.Laid.{stages_ok}
 use Rattle.paper.proofs.Stages.{Parts, begins}
 use Rattle.sheet.specs.Book.{Leads, Book, Filled, Begins, Ascending, Roomy}
 use Rattle.sheet.specs.Laid.{Within}
-
-pub filled_start : (f : ℕ → ℕ) (l : List ℕ) → Filled 0 f l l
-filled_start f l = record { words = λ i p. absurd (omega arith); beyond = λ k p. refl }
-
-pub filled_step : (f : ℕ → ℕ) (i x : ℕ) (old l : List ℕ) → Filled i f old l → i < length l → x ≡ f i → Filled (i + 1) f old (set l i x)
-filled_step f i x old l F p e = record { words = words; beyond = λ k q. get_or-set_other l i k x 0 (λ d. omega arith) ∙ F.beyond k (omega arith) }
-  where
-    words : (k : ℕ) → k < i + 1 → get_or (set l i x) k 0 ≡ f k
-    words k q = elim (ℕ_discrete k i) [
-      | yes d ↦ rw (d, get_or-set_same l i x 0 p) e
-      | no d ↦ rw (get_or-set_other l i k x 0 d) (F.words k (omega arith))
-    ]
 
 -- what `partition_point` asks of the first n tails, and what it answers
 module _ (tails : List ℕ) (n u : ℕ) (p : n ≤ length tails) where
@@ -56,23 +43,6 @@ module _ (tails : List ℕ) (n u : ℕ) (p : n ≤ length tails) where
         low = λ i l. rw (at i (omega arith)) at (ltb-true _ _ (point.0 i 0 (omega arith) l));
         high = λ i l m. rw (at i m) at (ltb-false _ _ (point.1 i 0 l (omega arith)));
       }
-
--- the places below u have their word
-pub record Begun (tails : List ℕ) (n u : ℕ) (old l : List ℕ) : Type 0 where
-  pub each : (v : ℕ) → v < u → Begins tails n v (get_or l v 0)
-  pub beyond : Untouched u old l
-
-pub begun_start : (tails : List ℕ) (n : ℕ) (l : List ℕ) → Begun tails n 0 l l
-begun_start tails n l = record { each = λ v p. absurd (omega arith); beyond = λ k p. refl }
-
-pub begun_step : (tails : List ℕ) (n u b : ℕ) (old l : List ℕ) → Begun tails n u old l → u < length l → Begins tails n u b → Begun tails n (u + 1) old (set l u b)
-begun_step tails n u b old l B p here = record { each = each; beyond = λ k q. get_or-set_other l u k b 0 (λ d. omega arith) ∙ B.beyond k (omega arith) }
-  where
-    each : (v : ℕ) → v < u + 1 → Begins tails n v (get_or (set l u b) v 0)
-    each v q = elim (ℕ_discrete v u) [
-      | yes d ↦ rw (d, get_or-set_same l u b 0 p) here
-      | no d ↦ rw (get_or-set_other l u v b 0 d) (B.each v (omega arith))
-    ]
 
 -- what parts the tails of a map is where the stages begin
 module _ (m : Map) (sorted : (i j : ℕ) → i < j → j < m.stages → m.tail i ≤ m.tail j) (tails : List ℕ) (same : (i : ℕ) → i < m.stages → get_or tails i 0 ≡ m.tail i) where

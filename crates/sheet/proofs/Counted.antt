@@ -7,7 +7,7 @@ use lib.Dec.{eqb}
 use lib.ListN.{length}
 use borrow.Author.Tests.{eq-eqb, ne_eqb}
 use Rattle.paper.specs.declared.Counts.{Counts}
-use Rattle.paper.specs.Served.{Served, served, refused}
+use Rattle.paper.specs.Served.{served, refused}
 use Rattle.paper.specs.Sizes.{place_words, stage_words, block_words, office_words, most_places, most_stages, most_blocks, most_offices}
 use Rattle.paper.specs.Test.{due, or_else}
 use Rattle.paper.specs.Sheet.{word, stages_at, blocks_at, offices_at}

@@ -13,8 +13,8 @@ pub fn column(sheet: &[u8], base: usize, n: usize, out: &mut [u32])
     requires { (n ≤ most_stages) × (n ≤ length out.old) × ((i : ℕ) → i < n → 4 * (base + stage_words * i) + 4 ≤ length sheet.now) }
     ensures { Filled n (λ i. word_of sheet.now (base + stage_words * i)) out.old out.new }
 {
-    for i in 0..n {
-        out[i] = word(sheet, base + STAGE_WORDS * i);
+    for (i, to) in out[..n].iter_mut().enumerate() {
+        *to = word(sheet, base + STAGE_WORDS * i);
     }
 }
 
@@ -25,7 +25,7 @@ pub fn starts(tails: &[u32], n: usize, places: usize, first: &mut [u32])
     ensures by_index { (u : ℕ) → u < places → Begins tails.now n u (get_or first.new u 0) }
     ensures untouched { Untouched places first.old first.new }
 {
-    for u in 0..places {
-        first[u] = tails[..n].partition_point(|&tail| (tail as usize) < u) as u32;
+    for (u, begin) in first[..places].iter_mut().enumerate() {
+        *begin = tails[..n].partition_point(|&tail| (tail as usize) < u) as u32;
     }
 }

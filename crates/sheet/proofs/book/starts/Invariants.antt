@@ -1,12 +1,8 @@
--- `sheet::book::starts` meets its contract. The invariant is `Begun`: the places below u have their word.
-use mathlib.Core.Path.{◌≡◌}
-use Prim.Native.Nat.{◌-◌, ◌≤◌}
-use lib.ListN.{length}
-use Rattle.sheet.proofs.Booked.{Begun}
+-- `sheet::book::starts` meets its contract. The invariant: the first u words part the tails.
+use Prim.Native.Nat.{ℕ, ◌<◌}
+use lib.ListN.{get_or}
+use Rattle.sheet.specs.Book.{Begins}
 use Rattle.sheet.proofs.book.starts.Given as goal
 
 abbrev pub invariant-loop-u : goal.invariant-loop-u
-invariant-loop-u l = (l.u-counter ≤ l.places) × (length l.first ≡ length l.initial.first) × Begun l.tails l.n l.u-counter l.initial.first l.first
-
-abbrev pub decreases-loop-u : goal.decreases-loop-u
-decreases-loop-u l = l.places - l.u-counter
+invariant-loop-u l = (v : ℕ) → v < l.u-counter → Begins l.tails l.n v (get_or l.begin-items v 0)
