@@ -2,31 +2,38 @@
 use Prim.Native.Nat.{ℕ, zero, suc, ◌/◌, ◌≤◌, ◌<◌}
 use native.Mathlib.Omega.{arith}
 use mathlib.Core.Path.{◌≡◌, refl, sym, ap}
-use mathlib.Core.Bool.{true, false}
+use mathlib.Core.Bool.{Bool, true, false}
 use mathlib.Core.List.{List}
-use lib.Dec.{ltb}
 use lib.ListN.{length, get_or, replicate, length-replicate}
-use borrow.Author.Tests.{le-ltb}
+use borrow.Author.Tests.{le-ltb, lt-ltb}
+use Rattle.std.specs.Bool.{MatchBool}
+use Rattle.std.specs.List.{range_with_len, AllWithin, HoldsAt}
+use Rattle.std.proofs.lemmas.List.FromFn.{length-range_with_len, get_or-range_with_len}
 use Rattle.paper.specs.declared.Counts.{Counts}
 use Rattle.paper.specs.Served.{served, refused}
 use Rattle.paper.specs.Sizes.{most_places}
-use Rattle.paper.specs.Map.{Map, Offices}
-use Rattle.paper.specs.Test.{every}
+use Rattle.paper.specs.Map.{Map}
 use Rattle.paper.specs.Sheet.{word, map_of, offices_in, offices_of}
 use Rattle.paper.specs.Layout.{sections, places_hold, stages_hold, blocks_hold, offices_hold, layout}
-use Rattle.paper.proofs.Test.{every_false}
+use Rattle.paper.proofs.Test.{every_of, every_false}
 use Rattle.sheet.specs.Laid.{counts_of, laid_by, laid_of, Sectioned}
 use Rattle.sheet.specs.Records.{Zeros}
 use Rattle.sheet.proofs.Room.{out_by, refused_by}
 
-pub office_fails : (m : Map) (o : Offices) (i : ℕ) → i < o.count → m.places ≤ o.stand i → false ≡ offices_hold m o
-unfolding offices_hold
-office_fails m o i p h = sym (every_false o.count (λ i. ltb (o.stand i) m.places) i p (le-ltb _ _ h))
+-- what a test of each office of a list comes to
+module _ (m : Map) (l : List ℕ) (places : ℕ) where
+  abbrev pub all : List ℕ
+  all = range_with_len 0 (length l / 4)
 
--- the first i, which are all, stand at places
-pub offices_pass : (m : Map) (l : List ℕ) (places i : ℕ) → m.places ≡ places → i ≡ length l / 4 → every i (λ k. ltb (word l k) places) ≡ true → true ≡ offices_hold m (offices_in l)
-unfolding offices_hold offices_in
-offices_pass m l places i e n h = sym (rw (e, ← n) h)
+  at : (i : ℕ) → i < length l / 4 → get_or all i 0 ≡ i
+  at i p = omega (arith, get_or-range_with_len 0 (length l / 4) i 0 p)
+
+  pub offices_by : (r : Bool) → m.places ≡ places → MatchBool r (AllWithin (λ i. word l i < places) all 0 (length all)) ((k : ℕ) × (k < length all) × HoldsAt (λ i. places ≤ word l i) all k)
+      → r ≡ offices_hold m (offices_in l)
+  unfolding offices_hold offices_in
+  offices_by true e h = sym (every_of (length l / 4) _ (λ i p. lt-ltb _ _ (rw (at i p, ← e) at (h i 0 (omega arith) (omega (arith, length-range_with_len 0 (length l / 4)))))))
+  offices_by false e (k, p, h) = let q : k < length l / 4 = omega (arith, length-range_with_len 0 (length l / 4)) in
+      sym (every_false (length l / 4) _ k q (le-ltb _ _ (rw (at k q, ← e) at (h 0))))
 
 -- a fresh list counts no stage
 pub fresh : (n : ℕ) → n ≤ most_places → Zeros n (replicate most_places 0)

@@ -12,10 +12,5 @@ pub fn offices_hold(list: &[u8], places: usize) -> bool
     ensures { (m : Map) → m.places ≡ places → result ≡ offices_hold m (offices_in list.now) }
 {
     let offices = list.len() / WORD_BYTES;
-    for i in 0..offices {
-        if word(list, i) as usize >= places {
-            return false;
-        }
-    }
-    true
+    (0..offices).all(|i| (word(list, i) as usize) < places)
 }

@@ -1,29 +1,16 @@
--- `sheet::offices::offices_hold` meets its contract. The invariant: the first i offices stand at places.
+-- `sheet::offices::offices_hold` meets its contract: `all` over the list's records.
+use Prim.Native.Nat.{◌<◌, ◌≤◌}
 use mathlib.Core.Path.{refl}
 use native.Mathlib.Omega.{arith}
-use lib.Dec.{ltb}
-use borrow.Author.Tests.{lt-ltb}
-use Rattle.paper.specs.Test.{every}
-use Rattle.paper.specs.Sheet.{word, offices_in}
-use Rattle.paper.proofs.Test.{every_more}
-use Rattle.sheet.proofs.Passes.{office_fails, offices_pass}
+use borrow.Author.Tests.{tests}
+use Rattle.std.proofs.Common.{rules}
+use Rattle.std.proofs.lemmas.Iterator.{cases_from_all, YieldsList-from_range}
+use Rattle.paper.specs.Sheet.{word}
+use Rattle.sheet.proofs.Passes.{offices_by}
 use Rattle.sheet.proofs.offices.offices_hold.Goals as goal
 
-pub loop-i-init : goal.loop-i-init
-unfolding every
-loop-i-init c = (omega arith, refl)
-
-pub word-requires : goal.word-requires
-word-requires c = omega arith
-
-pub returns-then-word-places : goal.returns-then-word-places
-unfolding offices_in
-returns-then-word-places c m e = office_fails m (offices_in c.args.list.now) c.loop-i.i (omega arith) (omega (arith, c.word.ensures))
-
-pub loop-i-preserved : goal.loop-i-preserved
-loop-i-preserved c =
-    let a = c.args in
-    (omega arith, every_more c.loop-i.i (λ k. ltb (word a.list.now k) a.places) c.loop-i.invariant.1 (lt-ltb _ a.places (omega (arith, c.word.ensures))))
-
 pub returns : goal.returns
-returns c m e = let l = c.loop-i in offices_pass m _ _ l.i e (omega (arith, l.invariant.0)) l.invariant.1
+returns c m e =
+    let a = c.args in
+    offices_by m a.list.now _ _ e
+    (cases_from_all _ _ _ (λ i. word a.list.now i < a.places) (λ i. a.places ≤ word a.list.now i) c.all.ensures.ran (YieldsList-from_range 0 _ _ refl (omega arith)) (λ x q k. search (rules, tests)) (λ x q k. search (rules, tests)))
