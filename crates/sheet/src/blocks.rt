@@ -50,27 +50,17 @@ fn is_aligned(code: u32, level: u32) -> bool
 }
 
 // What a block has to keep by itself.
+#[tactic(auto, unfolding(paper::specs::Layout::block_holds, paper::specs::Layout::block_lies))]
 fn block_holds(block: Block, places: usize, leaving: &[u32]) -> bool
     requires { places ≤ length leaving.now }
     ensures { (m : Map) (i : ℕ) → m.places ≡ places → Leaving m leaving.now → BlockIs m i block → result ≡ block_holds m i }
 {
-    let owner = block.owner as usize;
-    if owner >= places {
-        return false;
-    }
-    if block.level > TOP_LEVEL {
-        return false;
-    }
-    if block.code >= ALL_CELLS {
-        return false;
-    }
-    if !is_aligned(block.code, block.level) {
-        return false;
-    }
-    if block.low > block.high {
-        return false;
-    }
-    block.colour < leaving[owner]
+    (block.owner as usize) < places
+        && block.level <= TOP_LEVEL
+        && block.code < ALL_CELLS
+        && is_aligned(block.code, block.level)
+        && block.low <= block.high
+        && block.colour < leaving[block.owner as usize]
 }
 
 // Whether each block holds, and they ascend by place and within a place by code without overlap.

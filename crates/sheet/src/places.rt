@@ -34,16 +34,11 @@ pub fn gazetteer_of(sheet: &[u8], v: usize) -> u32
 }
 
 // What a place has to keep by itself.
+#[tactic(auto, unfolding(paper::specs::Layout::place_holds))]
 fn place_holds(cell: Cell, gazetteer: u32) -> bool
     ensures { (m : Map) (i : ℕ) → LiesAt m i cell → gazetteer ≡ m.gazetteer i → result ≡ place_holds m i }
 {
-    if cell.x >= GRID_SIDE {
-        return false;
-    }
-    if cell.y >= GRID_SIDE {
-        return false;
-    }
-    gazetteer != 0
+    cell.x < GRID_SIDE && cell.y < GRID_SIDE && gazetteer != 0
 }
 
 // Whether each place holds; if so, the slices have the cell of each as one number, and its gazetteer number.

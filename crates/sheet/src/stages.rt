@@ -35,22 +35,14 @@ fn read_stage(sheet: &[u8], base: usize, i: usize) -> Stage
 }
 
 // Tail and head are places and different, the length is in its range.
+#[tactic(auto, unfolding(paper::specs::Layout::stage_holds))]
 fn stage_holds(stage: Stage, places: usize) -> bool
     ensures { (m : Map) (i : ℕ) → m.places ≡ places → StageIs m i stage → result ≡ stage_holds m i }
 {
-    if stage.tail as usize >= places {
-        return false;
-    }
-    if stage.head as usize >= places {
-        return false;
-    }
-    if stage.tail == stage.head {
-        return false;
-    }
-    if stage.furlongs < 1 {
-        return false;
-    }
-    stage.furlongs <= MOST_FURLONGS
+    (stage.tail as usize) < places
+        && (stage.head as usize) < places
+        && stage.tail != stage.head
+        && (1..=MOST_FURLONGS).contains(&stage.furlongs)
 }
 
 // Whether each stage holds, they strictly ascend by (tail, head), and at most 8 leave a place; if so, leaving[u] leave u. Words past the places stay.
