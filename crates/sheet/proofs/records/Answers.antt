@@ -7,16 +7,11 @@ use lib.ListN.{length-replicate, length}
 use Rattle.paper.specs.Sizes.{most_places}
 use Rattle.paper.specs.Sheet.{map_of, offices_in, offices_of}
 use Rattle.paper.specs.Layout.{places_hold, stages_hold, blocks_hold, offices_hold}
-use Rattle.sheet.specs.Ground.{Parted}
 use Rattle.sheet.proofs.Passes.{fresh, refused_3, refused_4, refused_5, refused_6, laid_out}
 use Rattle.sheet.proofs.Room.{room, parted, offices_end}
 use Rattle.sheet.proofs.Grounds.{rest_is, list_offices}
-use Rattle.sheet.proofs.records.Goals.{After-offices_hold, Else-not-blocks_hold, Else-not-places_hold, Else-not-stages_hold, Start}
+use Rattle.sheet.proofs.records.Goals.{After-offices_hold, Else-not-blocks_hold, Else-not-places_hold, Else-not-stages_hold}
 use Rattle.sheet.proofs.records.Goals as goal
-
--- the sections of the ground
-parts : (c : Start) → Parted c.args.sheet.now c.args.counts
-parts c = parted _ _ c.requires
 
 -- each rule that holds
 places-hold : (c : Else-not-places_hold) → places_hold (map_of c.args.sheet.now) ≡ true
@@ -32,28 +27,28 @@ blocks-hold c = sym c.blocks_hold.ensures ∙ c.if-not-blocks_hold.false
 offices-test : (c : After-offices_hold) → c.offices_hold.result ≡ offices_hold (map_of c.args.sheet.now) (offices_of c.args.sheet.now)
 offices-test c =
     let list = rest_is _ _ c.args.sheet.now c.list_at.ensures in
-    c.offices_hold.ensures (map_of c.args.sheet.now) (sym (parts c.before.before.before.before.before.before.before.before.before.before.before.before.before.before).places) ∙ ap (offices_hold (map_of c.args.sheet.now)) (ap offices_in list ∙ list_offices _ _ c.requires)
+    c.offices_hold.ensures (map_of c.args.sheet.now) (sym (parted _ _ c.requires).places) ∙ ap (offices_hold (map_of c.args.sheet.now)) (ap offices_in list ∙ list_offices _ _ c.requires)
 
 pub places_hold-requires : goal.places_hold-requires
-places_hold-requires c = parts (goal.at.places_hold-requires c).Start
+places_hold-requires c = parted _ _ c.requires
 
 pub returns-then-not-places_hold : goal.returns-then-not-places_hold
 returns-then-not-places_hold c = refused_3 _ c.requires.whole (sym c.places_hold.ensures ∙ c.if-not-places_hold.true)
 
 pub stages_hold-requires : goal.stages_hold-requires
-stages_hold-requires c = record { parted = parts (goal.at.stages_hold-requires c).Start; zeros = fresh _ (room _ _ (parts (goal.at.stages_hold-requires c).Start)).within.places }
+stages_hold-requires c = record { parted = parted _ _ c.requires; zeros = fresh _ (room _ _ (parted _ _ c.requires)).within.places }
 
 pub returns-then-not-stages_hold : goal.returns-then-not-stages_hold
 returns-then-not-stages_hold c = refused_4 _ c.requires.whole (places-hold (goal.at.returns-then-not-stages_hold c).Else-not-places_hold) (sym c.stages_hold.ensures.value ∙ c.if-not-stages_hold.true)
 
 pub blocks_hold-requires : goal.blocks_hold-requires
-blocks_hold-requires c = let long : c.args.counts.places ≤ length c.stages_hold.new.leaving = omega (arith, c.stages_hold.auto.leaving, length-replicate {A = ℕ} most_places 0, (room _ _ (parts (goal.at.blocks_hold-requires c).Start)).within.places) in record { parted = parts (goal.at.blocks_hold-requires c).Start; places_in_bounds = long; leaving = c.stages_hold.ensures.leaving c.if-not-stages_hold.false }
+blocks_hold-requires c = let long : c.args.counts.places ≤ length c.stages_hold.new.leaving = omega (arith, c.stages_hold.auto.leaving, length-replicate {A = ℕ} most_places 0, (room _ _ (parted _ _ c.requires)).within.places) in record { parted = parted _ _ c.requires; places_in_bounds = long; leaving = c.stages_hold.ensures.leaving c.if-not-stages_hold.false }
 
 pub returns-then-not-blocks_hold : goal.returns-then-not-blocks_hold
 returns-then-not-blocks_hold c = refused_5 _ c.requires.whole (places-hold (goal.at.returns-then-not-blocks_hold c).Else-not-places_hold) (stages-hold (goal.at.returns-then-not-blocks_hold c).Else-not-stages_hold) (sym c.blocks_hold.ensures ∙ c.if-not-blocks_hold.true)
 
 pub list_at-requires : goal.list_at-requires
-list_at-requires c = (room _ _ (parts (goal.at.list_at-requires c).Start)).within
+list_at-requires c = (room _ _ (parted _ _ c.requires)).within
 
 pub slice_bounds-offices_hold-count : goal.slice_bounds-offices_hold-count
 slice_bounds-offices_hold-count c = omega (arith, c.list_at.ensures, offices_end _ _ c.requires)
