@@ -6,13 +6,9 @@ use Rattle.paper.specs.Sizes.{most_places, top_level}
 use Rattle.paper.specs.Layout.{block_holds}
 use Rattle.paper.specs.Sheet.{map_of}
 use Rattle.sheet.proofs.Blocked.{Held, held, block_fails, blocked_start, blocked_step, blocked_end, overlaps}
-use Rattle.sheet.proofs.Room.{Room, room}
-use Rattle.sheet.proofs.blocks.blocks_hold.Goals.{After-block_holds, After-cells_under, At-loop-i, Else-not-block_holds}
+use Rattle.sheet.proofs.Room.{room}
+use Rattle.sheet.proofs.blocks.blocks_hold.Goals.{After-block_holds, After-cells_under, Else-not-block_holds}
 use Rattle.sheet.proofs.blocks.blocks_hold.Goals as goal
-
--- the counts as numbers of the map, and the sheet's length by them
-facts : (c : At-loop-i) → Room c.args.sheet.now c.args.counts
-facts c = room _ _ c.requires.parted
 
 -- the test of the block is that of the paper
 tested : (c : After-block_holds) → c.block_holds.result ≡ block_holds (map_of c.args.sheet.now) c.loop-i.i
@@ -35,13 +31,13 @@ pub loop-i-init : goal.loop-i-init
 loop-i-init c = (omega arith, blocked_start _)
 
 pub read_block-block-requires : goal.read_block-block-requires
-read_block-block-requires c = let R = facts (goal.at.read_block-block-requires c).At-loop-i in (omega (arith, R), omega (arith, R))
+read_block-block-requires c = let R = room _ _ c.requires.parted in (omega (arith, R), omega (arith, R))
 
 pub block_holds-requires : goal.block_holds-requires
 block_holds-requires c = c.requires.places_in_bounds
 
 pub returns-then-not-block_holds : goal.returns-then-not-block_holds
-returns-then-not-block_holds c = block_fails _ _ (omega (arith, facts (goal.at.returns-then-not-block_holds c).At-loop-i)) (sym (tested (goal.at.returns-then-not-block_holds c).After-block_holds) ∙ c.if-not-block_holds.true)
+returns-then-not-block_holds c = block_fails _ _ (omega (arith, room _ _ c.requires.parted)) (sym (tested (goal.at.returns-then-not-block_holds c).After-block_holds) ∙ c.if-not-block_holds.true)
 
 pub overflow_mul-key : goal.overflow_mul-key
 overflow_mul-key c = omega (arith, small (goal.at.overflow_mul-key c).Else-not-block_holds)
@@ -67,4 +63,4 @@ loop-i-preserved c =
     (omega arith, blocked_step c.loop-i.invariant.1 (holds (goal.at.loop-i-preserved c).Else-not-block_holds) _ (omega (arith, b)) (omega (arith, b, cells (goal.at.loop-i-preserved c).After-cells_under)))
 
 pub returns : goal.returns
-returns c = blocked_end c.loop-i.invariant.1 (omega (arith, c.loop-i.invariant.0, facts (goal.at.returns c).At-loop-i))
+returns c = blocked_end c.loop-i.invariant.1 (omega (arith, c.loop-i.invariant.0, room _ _ c.requires.parted))

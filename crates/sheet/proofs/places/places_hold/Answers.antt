@@ -12,13 +12,9 @@ use Rattle.paper.specs.Layout.{places_hold}
 use Rattle.paper.proofs.Test.{both_false_left, both_so}
 use Rattle.differ.specs.Tree.{same}
 use Rattle.sheet.proofs.Placed.{places_fail, places-by}
-use Rattle.sheet.proofs.Room.{Room, room}
-use Rattle.sheet.proofs.places.places_hold.Goals.{After-take_places, Else-not-take_places, Start}
+use Rattle.sheet.proofs.Room.{room}
+use Rattle.sheet.proofs.places.places_hold.Goals.{After-take_places, Else-not-take_places}
 use Rattle.sheet.proofs.places.places_hold.Goals as goal
-
--- the counts as numbers of the map, and the sheet's length by them
-facts : (c : Start) → Room c.args.sheet.now c.args.counts
-facts c = room _ _ c.requires
 
 -- both slices are as long as there may be places
 module _ (c : After-take_places) where
@@ -39,19 +35,19 @@ by-words c =
     places-by _ c.args.counts.places c.take_places.new.cells c.take_places.new.numbers (room _ _ c.requires).places (sym c.take_places.ensures.value ∙ e) (c.take_places.ensures.taken e)
 
 pub take_places-requires : goal.take_places-requires
-take_places-requires c = let zeros = length-replicate {A = ℕ} most_places 0 in record { parted = c.requires; places_in_bounds = (omega (arith, zeros, (facts (goal.at.take_places-requires c).Start).within.places), omega (arith, zeros, (facts (goal.at.take_places-requires c).Start).within.places)) }
+take_places-requires c = let zeros = length-replicate {A = ℕ} most_places 0 in record { parted = c.requires; places_in_bounds = (omega (arith, zeros, (room _ _ c.requires).within.places), omega (arith, zeros, (room _ _ c.requires).within.places)) }
 
 pub returns-then-not-take_places : goal.returns-then-not-take_places
-returns-then-not-take_places c = places_fail _ c.args.counts.places (facts (goal.at.returns-then-not-take_places c).Start).places (sym c.take_places.ensures.value ∙ c.if-not-take_places.true)
+returns-then-not-take_places c = places_fail _ c.args.counts.places (room _ _ c.requires).places (sym c.take_places.ensures.value ∙ c.if-not-take_places.true)
 
 pub all_differ-requires : goal.all_differ-requires
-all_differ-requires c = omega (arith, long (goal.at.all_differ-requires c).After-take_places, (facts (goal.at.all_differ-requires c).Start).within.places)
+all_differ-requires c = omega (arith, long (goal.at.all_differ-requires c).After-take_places, (room _ _ c.requires).within.places)
 
 pub returns-then-not-all_differ : goal.returns-then-not-all_differ
 returns-then-not-all_differ c = sym (both_false_left _ (apart c.args.counts.places (same c.take_places.new.numbers)) (sym c.all_differ.ensures ∙ c.if-not-all_differ.true)) ∙ by-words (goal.at.returns-then-not-all_differ c).Else-not-take_places
 
 pub all_differ-requires-2 : goal.all_differ-requires-2
-all_differ-requires-2 c = omega (arith, long (goal.at.all_differ-requires-2 c).After-take_places, (facts (goal.at.all_differ-requires-2 c).Start).within.places)
+all_differ-requires-2 c = omega (arith, long (goal.at.all_differ-requires-2 c).After-take_places, (room _ _ c.requires).within.places)
 
 pub returns : goal.returns
 returns c =

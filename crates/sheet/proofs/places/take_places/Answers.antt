@@ -9,13 +9,9 @@ use Rattle.paper.specs.Sheet.{map_of}
 use Rattle.paper.specs.Layout.{place_holds}
 use Rattle.paper.proofs.Test.{true_false, every_false}
 use Rattle.sheet.proofs.Placed.{placed_start, placed_step, holds_on_grid}
-use Rattle.sheet.proofs.Room.{Room, room}
-use Rattle.sheet.proofs.places.take_places.Goals.{After-place_holds, At-loop-i, Else-not-place_holds}
+use Rattle.sheet.proofs.Room.{room}
+use Rattle.sheet.proofs.places.take_places.Goals.{After-place_holds, Else-not-place_holds}
 use Rattle.sheet.proofs.places.take_places.Goals as goal
-
--- the counts as numbers of the map, and the sheet's length by them
-facts : (c : At-loop-i) → Room c.args.sheet.now c.args.counts
-facts c = room _ _ c.requires.parted
 
 -- the place that was read is judged by the paper's rule
 judged : (c : After-place_holds) → c.place_holds.result ≡ place_holds (map_of c.args.sheet.now) c.loop-i.i
@@ -31,10 +27,10 @@ pub loop-i-init : goal.loop-i-init
 loop-i-init c = (omega arith, refl, refl, placed_start _ _ _)
 
 pub cell_of-cell-requires : goal.cell_of-cell-requires
-cell_of-cell-requires c = omega (arith, facts (goal.at.cell_of-cell-requires c).At-loop-i)
+cell_of-cell-requires c = omega (arith, room _ _ c.requires.parted)
 
 pub gazetteer_of-gazetteer-requires : goal.gazetteer_of-gazetteer-requires
-gazetteer_of-gazetteer-requires c = omega (arith, facts (goal.at.gazetteer_of-gazetteer-requires c).At-loop-i)
+gazetteer_of-gazetteer-requires c = omega (arith, room _ _ c.requires.parted)
 
 pub returns-then-not-place_holds : goal.returns-then-not-place_holds
 returns-then-not-place_holds c = record { value = sym (every_false c.args.counts.places (place_holds (map_of c.args.sheet.now)) c.loop-i.i c.loop-i-test.true (sym (judged (goal.at.returns-then-not-place_holds c).After-place_holds) ∙ c.if-not-place_holds.true)); taken = λ e. true_false e refl }

@@ -9,28 +9,24 @@ use Rattle.paper.specs.Layout.{stage_holds}
 use Rattle.paper.specs.Sheet.{map_of}
 use Rattle.paper.specs.Slice.{Untouched}
 use Rattle.sheet.proofs.Staged.{Held, held, stage_fails, staged_start, staged-step, staged_end, out_of_order, ninth}
-use Rattle.sheet.proofs.Room.{Room, room}
+use Rattle.sheet.proofs.Room.{room}
 use Rattle.sheet.proofs.stages.stages_hold.Goals.{After-stage_holds, At-loop-i, Else-not-stage_holds}
 use Rattle.sheet.proofs.stages.stages_hold.Goals as goal
 
--- the counts as numbers of the map, and the sheet's length by them
-facts : (c : At-loop-i) → Room c.args.sheet.now c.args.counts
-facts c = room _ _ c.requires.parted
-
 -- the test of the stage is that of the paper
 tested : (c : After-stage_holds) → c.stage_holds.result ≡ stage_holds (map_of c.args.sheet.now) c.loop-i.i
-tested c = c.stage_holds.ensures _ _ (sym ((room _ _ c.requires.parted)).places) c.read_stage-stage.ensures
+tested c = c.stage_holds.ensures _ _ (sym (room _ _ c.requires.parted).places) c.read_stage-stage.ensures
 
 -- in the branch where it holds, and what the sums and the reads need there
 holds : (c : Else-not-stage_holds) → Held (map_of c.args.sheet.now) c.loop-i.i
-holds c = let R = (room _ _ c.requires.parted) in held _ _ (omega (arith, R)) (omega (arith, R)) (sym ((c.stage_holds.ensures _ _ (sym ((room _ _ c.requires.parted)).places) c.read_stage-stage.ensures)) ∙ c.if-not-stage_holds.false)
+holds c = let R = room _ _ c.requires.parted in held _ _ (omega (arith, R)) (omega (arith, R)) (sym ((c.stage_holds.ensures _ _ (sym (room _ _ c.requires.parted).places) c.read_stage-stage.ensures)) ∙ c.if-not-stage_holds.false)
 
 small : (c : Else-not-stage_holds) → let t = c.read_stage-stage.result in let n = c.args.counts.places in (t.tail < n) × (t.head < n) × (n ≤ most_places) × (n ≤ length c.loop-i.leaving)
 small c = omega (arith, holds c, c.read_stage-stage.ensures, c.loop-i.invariant.2.long, (room _ _ c.requires.parted))
 
 -- the words beyond the places
 beyond : (c : At-loop-i) → Untouched c.args.counts.places c.args.leaving.now c.loop-i.leaving
-beyond c k p = c.loop-i.invariant.2.beyond k (omega (arith, facts c))
+beyond c k p = c.loop-i.invariant.2.beyond k (omega (arith, room _ _ c.requires.parted))
 
 pub stages_at-at-requires : goal.stages_at-at-requires
 stages_at-at-requires c = (room _ _ c.requires.parted).within
@@ -39,10 +35,10 @@ pub loop-i-init : goal.loop-i-init
 loop-i-init c = (omega arith, refl, staged_start _ _ _ c.requires.parted.places c.requires.zeros)
 
 pub read_stage-stage-requires : goal.read_stage-stage-requires
-read_stage-stage-requires c = let R = facts (goal.at.read_stage-stage-requires c).At-loop-i in (omega (arith, R), omega (arith, R))
+read_stage-stage-requires c = let R = room _ _ c.requires.parted in (omega (arith, R), omega (arith, R))
 
 pub returns-then-not-stage_holds : goal.returns-then-not-stage_holds
-returns-then-not-stage_holds c = record { value = stage_fails _ _ (omega (arith, facts (goal.at.returns-then-not-stage_holds c).At-loop-i)) (sym (tested (goal.at.returns-then-not-stage_holds c).After-stage_holds) ∙ c.if-not-stage_holds.true); leaving = (λ y. true_false y refl); untouched = beyond (goal.at.returns-then-not-stage_holds c).At-loop-i }
+returns-then-not-stage_holds c = record { value = stage_fails _ _ (omega (arith, room _ _ c.requires.parted)) (sym (tested (goal.at.returns-then-not-stage_holds c).After-stage_holds) ∙ c.if-not-stage_holds.true); leaving = (λ y. true_false y refl); untouched = beyond (goal.at.returns-then-not-stage_holds c).At-loop-i }
 
 pub overflow_mul-key : goal.overflow_mul-key
 overflow_mul-key c = omega (arith, small (goal.at.overflow_mul-key c).Else-not-stage_holds)
@@ -84,4 +80,4 @@ loop-i-preserved c =
     (omega arith, simp length-set l.invariant.1, staged-step l.invariant.2 (holds (goal.at.loop-i-preserved c).Else-not-stage_holds) _ (sym t.tail) _ (omega (arith, t)) (omega (arith, c.if-before-ge-MOST_LEAVING.false)) (omega (arith, t)))
 
 pub returns : goal.returns
-returns c = let k = staged_end c.loop-i.invariant.2 (omega (arith, c.loop-i.invariant.0, facts (goal.at.returns c).At-loop-i)) in record { value = k.0; leaving = (λ y. k.1); untouched = beyond (goal.at.returns c).At-loop-i }
+returns c = let k = staged_end c.loop-i.invariant.2 (omega (arith, c.loop-i.invariant.0, room _ _ c.requires.parted)) in record { value = k.0; leaving = (λ y. k.1); untouched = beyond (goal.at.returns c).At-loop-i }
