@@ -26,6 +26,7 @@ pub struct Block {
 }
 
 // The record of block i, in a section whose count stands at word `base`.
+#[tactic(auto, unfolding(paper::specs::Sheet::map_of))]
 pub fn read_block(sheet: &[u8], base: usize, i: usize) -> Block
     requires { (base ≡ blocks_at sheet.now) × (4 * (base + 1 + block_words * i + block_words) ≤ length sheet.now) }
     ensures { BlockIs (map_of sheet.now) i result }

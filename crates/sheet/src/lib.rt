@@ -22,6 +22,7 @@ use paper::sizes::{BLOCK_WORDS, MOST_PLACES, PLACE_WORDS, STAGE_WORDS, WORD_BYTE
 use paper::{Counts, Refusal};
 
 // Word i of the sheet, low byte first.
+#[tactic(auto, unfolding(paper::specs::Sheet::word))]
 pub fn word(sheet: &[u8], i: usize) -> u32
     requires { 4 * i + 4 ≤ length sheet.now }
     ensures { result ≡ word_of sheet.now i }

@@ -14,6 +14,7 @@ use paper::sizes::{GRID_SIDE, MOST_PLACES, PLACE_WORDS};
 use paper::{Cell, Counts};
 
 // Where the place v lies.
+#[tactic(auto, unfolding(paper::specs::Sheet::map_of))]
 pub fn cell_of(sheet: &[u8], v: usize) -> Cell
     requires { 4 * (1 + place_words * v + place_words) ≤ length sheet.now }
     ensures { LiesAt (map_of sheet.now) v result }
@@ -26,6 +27,7 @@ pub fn cell_of(sheet: &[u8], v: usize) -> Cell
 }
 
 // The gazetteer number of the place v.
+#[tactic(auto, unfolding(paper::specs::Sheet::map_of))]
 pub fn gazetteer_of(sheet: &[u8], v: usize) -> u32
     requires { 4 * (1 + place_words * v + place_words) ≤ length sheet.now }
     ensures { result ≡ (map_of sheet.now).gazetteer v }

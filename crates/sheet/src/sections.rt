@@ -14,6 +14,7 @@ use paper::sizes::{
 use paper::{Counts, Refusal};
 
 // The section whose count stands at word `at`: the count is present (1) and from least to most (2), and its records are present (1).
+#[tactic(auto, unfolding(paper::specs::Layout::section))]
 pub fn section(
     sheet: &[u8],
     at: usize,

@@ -22,6 +22,7 @@ pub struct Stage {
     pub furlongs: u32,
 }
 
+#[tactic(auto, unfolding(paper::specs::Sheet::map_of))]
 fn read_stage(sheet: &[u8], base: usize, i: usize) -> Stage
     requires { (base ≡ stages_at sheet.now) × (4 * (base + 1 + stage_words * i + stage_words) ≤ length sheet.now) }
     ensures { StageIs (map_of sheet.now) i result }
