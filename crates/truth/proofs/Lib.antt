@@ -9,3 +9,5 @@ pub mod Progress
 pub mod Surveyed
 pub mod Filling
 pub mod Determined
+pub mod Over
+pub mod Tabled

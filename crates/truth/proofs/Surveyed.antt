@@ -21,6 +21,7 @@ use Rattle.sheet.proofs.Grounds.{mapped_lawful, mapped_charted, laid_mapped}
 use Rattle.roads.specs.Chain.{Chainable, Chained, Starts, GoesOn}
 use Rattle.roads.specs.Towards.{Lists}
 use Rattle.roads.proofs.Laws.{map-starts, map_goes, map_ready, map_entered}
+use Rattle.truth.specs.Table.{CheckedIn}
 use Rattle.truth.specs.Roads.{Roads, Surveyed}
 
 -- the chains of a map's stages, by its book
@@ -95,5 +96,6 @@ module _ (s before : List ℕ) where
   laid_refused r e = let (n, q, h) = laid_number s r e in subst (λ (x : ℕ). Checked s before x before) (sym q) (badly_laid h)
 
 -- a slice that is too short
-pub short_end : (g before : List ℕ) (c : Counts) → Mapped g c → length before < c.places * c.places → CheckedOn 0 (map_of g) before 10 before
-short_end g before c M p = short refl (rw M.parts.places at p)
+pub short_end : {U : Type 0} (held : List U → List ℕ) (written : List ℕ → List U → List U) (g : List ℕ) (before : List U) (c : Counts) → Mapped g c → length (held before) < c.places * c.places
+    → before ≡ written (held before) before → CheckedIn held written 0 (map_of g) before 10 before
+short_end held written g before c M p e = record { words = held before; checked = short refl (rw M.parts.places at p); there = e }

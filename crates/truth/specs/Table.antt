@@ -1,9 +1,10 @@
 -- The lent slice and the marks of blocks, while the columns are gone through.
-use Rattle.std.specs.Prelude.{ℕ, zero, suc, ◌+◌, ◌*◌, ◌<◌, ◌≡◌, Bool, true, false, List, eqb, length, get_or, set}
+use Rattle.std.specs.Prelude.{ℕ, zero, suc, ◌+◌, ◌*◌, ◌<◌, ◌≡◌, Bool, true, false, List, ◌++◌, eqb, length, get_or, set, drop}
 use Rattle.std.proofs.Math.Option.{Option, some, none}
 use Rattle.paper.specs.Test.{every}
 use Rattle.paper.specs.Slice.{Untouched}
 use Rattle.paper.specs.Map.{Map}
+use Rattle.paper.specs.Verdict.{CheckedOn}
 use Rattle.paper.specs.Block.{block_of}
 
 -- column v of the table of n × n words is stored, and nothing else is changed
@@ -12,6 +13,22 @@ pub record Stored (n v : ℕ) (column before after : List ℕ) : Type 0 where
   pub here : (u : ℕ) → u < n → get_or after (u * n + v) 0 ≡ get_or column u 0
   pub others : (u w : ℕ) → u < n → w < n → (w ≡ v → ⊥) → get_or after (u * n + w) 0 ≡ get_or before (u * n + w) 0
   pub rest : Untouched (n * n) before after
+
+-- words written at the start of a slice of words; later words are untouched
+abbrev pub over : List ℕ → List ℕ → List ℕ
+over words l = words ++ drop (length words) l
+
+-- column v is stored in the words that are written at the start of b
+pub record StoredIn {U : Type 0} (written : List ℕ → List U → List U) (n v : ℕ) (column words : List ℕ) (b after : List U) : Type 0 where
+  pub words' : List ℕ
+  pub stored : Stored n v column words words'
+  pub there : after ≡ written words' b
+
+-- how a check ends, over the words that stand in a slice: the number, and the slice at entry and at exit
+pub record CheckedIn {U : Type 0} (held : List U → List ℕ) (written : List ℕ → List U → List U) (laid : ℕ) (m : Map) (before : List U) (number : ℕ) (after : List U) : Type 0 where
+  pub words : List ℕ
+  pub checked : CheckedOn laid m (held before) number words
+  pub there : after ≡ written words before
 
 -- the mark of a block that some pair uses
 abbrev pub used : ℕ

@@ -4,15 +4,15 @@ ghost use Rattle.paper.specs.Refusal.{number};
 ghost use Rattle.paper.specs.Map.{Map};
 ghost use Rattle.paper.specs.Sheet.{map_of};
 ghost use Rattle.paper.specs.Test.{due};
-ghost use Rattle.paper.specs.Verdict.{CheckedOn};
-ghost use Rattle.truth.specs.Table.{all_used};
+ghost use Rattle.truth.specs.Table.{all_used, CheckedIn};
 ghost use Rattle.truth.specs.Faults.{found_below};
 ghost use Rattle.truth.specs.Roads.{OnRoads, OnSurvey, Reached};
 ghost use Rattle.truth.specs.Columns.{ColumnIs};
 
 use crate::pairs::{Fault, column_fault};
-use crate::slices::{all_marked, store_column};
+use crate::slices::all_marked;
 use crate::known::Survey;
+use crate::table::Table;
 use paper::Refusal;
 use paper::sizes::{MOST_BLOCKS, MOST_PLACES};
 use roads::{FAR, Roads};
@@ -66,9 +66,10 @@ pub fn final_number(marks: &[u8], blocks: usize) -> Result<(), Refusal>
 }
 
 // Fills the table a column at a time, on any map that was surveyed. It ends at a place that some other cannot reach (11).
-pub fn columns(survey: &Survey, distances: &mut [u32]) -> Result<(), Refusal>
-    requires { survey.now.roads.places * survey.now.roads.places ≤ length distances.old }
-    ensures { (m : Map) → OnSurvey survey.now m → CheckedOn 0 m distances.old (number result) distances.new }
+pub fn columns<U, T: Table<U>>(survey: &Survey, table: &mut [U]) -> Result<(), Refusal>
+    requires room { survey.now.roads.places * survey.now.roads.places ≤ length (T.held table.old) }
+    requires whole { table.old ≡ T.written (T.held table.old) table.old }
+    ensures { (m : Map) → OnSurvey survey.now m → CheckedIn T.held T.written 0 m table.old (number result) table.new }
 {
     let places = survey.roads.places;
     let mut marks = [0u8; MOST_BLOCKS];
@@ -79,11 +80,11 @@ pub fn columns(survey: &Survey, distances: &mut [u32]) -> Result<(), Refusal>
         match judge_column(survey, v, &mut column, &mut marks, end) {
             Ok(found) => fault = found.or(fault),
             Err(refusal) => {
-                distances[..places * places].fill(0);
+                T::clear(table, places * places);
                 return Err(refusal);
             }
         }
-        store_column(distances, places, v, &column);
+        T::store_column(table, places, v, &column);
     }
     if let Some(found) = fault {
         return Err(found.refusal);

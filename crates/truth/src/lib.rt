@@ -4,18 +4,21 @@
 pub mod columns;
 pub mod pairs;
 mod slices;
+pub mod table;
 mod known;
 
 ghost use Rattle.std.specs.Prelude.{◌≡◌, ◌↔◌, ◌*◌, ◌≤◌, length, take};
 ghost use Rattle.paper.specs.Refusal.{number};
 ghost use Rattle.paper.specs.Sheet.{map_of};
-ghost use Rattle.paper.specs.Verdict.{area, CheckedOn, Checked, Accepted};
+ghost use Rattle.paper.specs.Verdict.{area, Checked, Accepted};
 ghost use Rattle.sheet.specs.Book.{Roomy};
 ghost use Rattle.truth.specs.Roads.{Surveyed};
+ghost use Rattle.truth.specs.Table.{CheckedIn};
 
 pub use known::Survey;
 
 use crate::columns::columns;
+use crate::table::{Table, Words};
 use paper::Refusal;
 use paper::sizes::{MOST_PLACES, MOST_STAGES};
 use roads::{Roads, chain};
@@ -40,9 +43,10 @@ pub fn survey(
 }
 
 // The check of a map that is read off the bytes, with a slice that is long enough: the survey, and then column after column.
-fn fill(map: &Mapped, distances: &mut [u32]) -> Result<(), Refusal>
-    requires { map.now.counts.places * map.now.counts.places ≤ length distances.old }
-    ensures { CheckedOn 0 (map_of map.now.bytes.now) distances.old (number result) distances.new }
+fn fill<U, T: Table<U>>(map: &Mapped, table: &mut [U]) -> Result<(), Refusal>
+    requires room { map.now.counts.places * map.now.counts.places ≤ length (T.held table.old) }
+    requires whole { table.old ≡ T.written (T.held table.old) table.old }
+    ensures { CheckedIn T.held T.written 0 (map_of map.now.bytes.now) table.old (number result) table.new }
 {
     let mut first = [0u32; MOST_PLACES];
     let mut tails = [0u32; MOST_STAGES];
@@ -74,17 +78,17 @@ fn fill(map: &Mapped, distances: &mut [u32]) -> Result<(), Refusal>
             places: map.counts.places,
         },
     };
-    columns(&surveyed, distances)
+    columns::<U, T>(&surveyed, table)
 }
 
-// The check of a map that is read off the bytes: 10, or what the roads and the blocks come to.
-fn judge(map: &Mapped, distances: &mut [u32]) -> Result<(), Refusal>
-    ensures { CheckedOn 0 (map_of map.now.bytes.now) distances.old (number result) distances.new }
+// The check of a map that is read off the bytes, in whatever its table stands: 10, or what the roads and the blocks come to.
+pub fn judge<U, T: Table<U>>(map: &Mapped, table: &mut [U]) -> Result<(), Refusal>
+    ensures { CheckedIn T.held T.written 0 (map_of map.now.bytes.now) table.old (number result) table.new }
 {
-    if distances.len() < map.counts.places * map.counts.places {
+    if T::room(table) < map.counts.places * map.counts.places {
         return Err(Refusal::TableShort);
     }
-    fill(map, distances)
+    fill::<U, T>(map, table)
 }
 
 // Nothing is due for a sheet that is laid out and tells the truth, and else the first of 1 to 6 and 10 to 15. Where nothing is due, and after 12 to 15,
@@ -94,5 +98,5 @@ pub fn check(sheet: &[u8], distances: &mut [u32]) -> Result<(), Refusal>
     ensures truth { area (map_of sheet.now) ≤ length distances.old → (number result ≡ 0) ↔ Accepted sheet.now }
 {
     let sheet = layout(sheet)?;
-    judge(&sheet.map, distances)
+    judge::<u32, Words>(&sheet.map, distances)
 }

@@ -3,6 +3,7 @@ use Rattle.std.proofs.lemmas.Result.{err_from_is_err_and}
 use Rattle.paper.proofs.Laid.{laid_out}
 use Rattle.paper.proofs.Checked.{checked_truth}
 use Rattle.truth.proofs.Surveyed.{laid_checked, laid_refused}
+use Rattle.truth.proofs.Over.{checked_words}
 use Rattle.truth.proofs.check.Goals as goal
 
 pub returns-in_err-sheet : goal.returns-in_err-sheet
@@ -13,5 +14,5 @@ returns-in_err-sheet c =
 
 pub returns : goal.returns
 returns c =
-    let ended = laid_checked _ _ _ _ _ c.in_ok-sheet.ensures.counts (rw c.in_ok-sheet.ensures.parts.0 at c.judge.ensures) in
+    let ended = laid_checked _ _ _ _ _ c.in_ok-sheet.ensures.counts (checked_words _ _ _ _ _ (rw c.in_ok-sheet.ensures.parts.0 at c.judge.ensures)) in
     record { rules = ended; truth = λ long. checked_truth (laid_out _ (λ i p. (c.type_inv.sheet i).fits)) long ended }

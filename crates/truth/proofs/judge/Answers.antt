@@ -6,7 +6,7 @@ use Rattle.truth.proofs.Surveyed.{short_end}
 use Rattle.truth.proofs.judge.Goals as goal
 
 pub overflow_mul-map : goal.overflow_mul-map
-overflow_mul-map c = let n = (room _ _ c.args.map.now.keeps.parts).within.places in omega (arith, mul-le-mul n n)
+overflow_mul-map g c = let n = (room _ _ c.args.map.now.keeps.parts).within.places in omega (arith, mul-le-mul n n)
 
-pub returns-then-distances-map : goal.returns-then-distances-map
-returns-then-distances-map c = short_end _ _ _ c.args.map.now.keeps (omega arith)
+pub returns-then-room-map : goal.returns-then-room-map
+returns-then-room-map g c = short_end _ _ _ _ _ c.args.map.now.keeps (omega (arith, c.if-room-map.true, c.room.ensures.room)) c.room.ensures.whole
