@@ -1,14 +1,15 @@
 -- How a search starts: the invariant of the loop in `start`, and what stands once v has its length.
-use mathlib.Core.Path.{◌≡◌, refl, ap, ◌∙◌}
+use mathlib.Core.Path.{◌≡◌, ap, ◌∙◌}
 use mathlib.Core.Logic.{◌≢◌, inr}
 use mathlib.Core.List.{List}
 use Prim.Native.Nat.{ℕ, ◌+◌, ◌≤◌, ◌<◌}
 use native.Mathlib.Decide.{ℕ_discrete}
 use native.Mathlib.Omega.{arith}
 use lib.ListN.{length, get_or, set, length-set}
-use lib.Seq.{get_or-set_same, get_or-set_other}
+use lib.Seq.{get_or-set_other}
 use Rattle.mintree.specs.Mintree.{Played, Same}
 use Rattle.paper.specs.Sizes.{most_places}
+use Rattle.std.proofs.Common.{rules}
 use Rattle.paper.specs.Map.{Map}
 use Rattle.paper.specs.Road.{arrived}
 use Rattle.paper.specs.Slice.{Untouched}
@@ -26,16 +27,14 @@ pub record Blank (n u : ℕ) (column₀ column w : List ℕ) : Type 0 where
   pub past : Untouched n column₀ column
 
 pub blank_end : {n u : ℕ} {column₀ column w : List ℕ} → Blank n u column₀ column w → n ≤ u → Blank n n column₀ column w
-blank_end {n} {u} B h = let e : u ≡ n = omega (arith, B.upto) in rw e at B
+blank_end B h = search rules
 
 module _ {n v : ℕ} {column₀ column w w' : List ℕ} (B : Blank n n column₀ column w) (v-in : v < n) (S : Same 0 n (set w (n + v) v) w') (P : Played w' 0 n) where
   begun-word : word_of w' n v ≡ v
-  begun-word =
-      let e : 0 + (n + v) ≡ n + v = omega arith in
-      S.after (0 + (n + v)) (omega arith) ∙ ap (λ (z : ℕ). get_or (set w (n + v) v) z 0) e ∙ get_or-set_same w (n + v) v 0 (omega (arith, B.w_room))
+  begun-word = search rules
 
   begun-value : get_or (set column v 0) v 0 ≡ 0
-  begun-value = get_or-set_same column v 0 0 (omega (arith, B.column_room))
+  begun-value = search rules
 
   module _ (u : ℕ) (u-in : u < n) (ne : u ≢ v) where
     other-begun : word_of w' n u ≡ packed far u
@@ -44,7 +43,7 @@ module _ {n v : ℕ} {column₀ column w w' : List ℕ} (B : Blank n n column₀
         S.after (0 + (n + u)) (omega arith) ∙ ap (λ (z : ℕ). get_or (set w (n + v) v) z 0) e ∙ get_or-set_other w (n + v) (n + u) v 0 (omega arith) ∙ B.word u u-in
 
     other-value : get_or (set column v 0) u 0 ≡ far
-    other-value = get_or-set_other column v u 0 0 ne ∙ B.blank u u-in
+    other-value = search rules
 
   pub begun : Halfway n 0 (set column v 0) w'
   begun = record {
@@ -69,7 +68,4 @@ module _ {n v : ℕ} {column₀ column w w' : List ℕ} (B : Blank n n column₀
   }
     where
       open-all : (u : ℕ) → u < n → Done 0 (get_or (set column v 0) u 0) (word_of w' n u) u → ⊥
-      open-all u l D = elim (ℕ_discrete u v) [
-        | yes e ↦ omega (arith, rw e at D.word, begun-word)
-        | no ne ↦ omega (arith, D.early, other-value u l ne)
-      ]
+      open-all u l D = search rules

@@ -5,10 +5,11 @@ use Prim.Native.Nat.{ℕ, ◌-◌, ◌≤◌, ◌<◌}
 use native.Mathlib.Decide.{dec_lt}
 use native.Mathlib.Omega.{arith}
 use lib.ListN.{length, get_or}
+use Rattle.std.proofs.Common.{rules}
 use Rattle.paper.specs.Map.{Map}
 use Rattle.paper.proofs.LaidOut.{LaidOut}
 use Rattle.roads.specs.Chain.{Latest, Starts, GoesOn, Chained}
-use Rattle.roads.specs.Towards.{far, Towards, Ready, Entered, Lists}
+use Rattle.roads.specs.Towards.{Towards, Ready, Entered, Lists}
 
 -- ---- `chain` leaves no choice
 latest_le : {head : ℕ → ℕ} {w k b c : ℕ} → Latest head w k b → Latest head w k c → b ≤ c
@@ -29,51 +30,30 @@ module _ (heads : List ℕ) (n : ℕ) (last₀ previous₀ last previous last' p
 
 -- ---- the chains of a map whose heads the slice holds
 latest_same : {f g : ℕ → ℕ} {w k b : ℕ} → ((i : ℕ) → i < k → g i ≡ f i) → Latest f w k b → Latest g w k b
-latest_same same B = record {
-  within = B.within;
-  into = λ i e. same i (omega (arith, B.within)) ∙ B.into i e;
-  none = λ i a l e. B.none i a l (sym (same i l) ∙ e);
-}
+latest_same same B = search rules
 
 module _ (m : Map) (heads : List ℕ) (n : ℕ) (last₀ previous₀ last previous : List ℕ) (C : Chained heads n last₀ previous₀ last previous) (stages : m.stages ≡ length heads) (same : (i : ℕ) → i < m.stages → m.head i ≡ get_or heads i 0) where
   pub map-starts : Starts m.head n m.stages last
-  map-starts w l = latest_same same (rw stages (C.starts w l))
+  map-starts w l = search rules
 
   pub map_goes : GoesOn m.head m.stages previous
-  map_goes i l = rw (same i l) (latest_same (λ k h. same k (omega arith)) (C.goes i (omega arith)))
+  map_goes i l = search rules
 
 -- ---- what `towards` needs, of a map that is laid out
 module _ {m : Map} (L : LaidOut m) (tails lengths : List ℕ) (K : Lists m tails lengths m.places) where
   pub map_ready : (previous : List ℕ) → length tails ≤ length lengths → length tails ≤ length previous → GoesOn m.head m.stages previous → Ready tails lengths previous m.places
-  map_ready previous lengths_long previous_long G = record {
-    few = L.ground.places;
-    lengths_long = lengths_long;
-    previous_long = previous_long;
-    tail_in = λ i l. let h : i < m.stages = omega (arith, K.stages) in omega (arith, K.tail i h, L.tails i h);
-    furlongs_high = λ i l. let h : i < m.stages = omega (arith, K.stages) in omega (arith, K.furlongs i h, L.short i h);
-    down = λ i l. (G i (omega (arith, K.stages))).within;
-  }
+  map_ready previous lengths_long previous_long G = search rules
 
   pub map_entered : (last : List ℕ) → m.places ≤ length last → Starts m.head m.places m.stages last → Entered last m.places (length tails)
-  map_entered last places T = record { places = places; starts = λ p l. omega (arith, (T p l).within, K.stages) }
+  map_entered last places T = search rules
 
 -- ---- a column is what its entries are, and `towards` leaves no choice
 pub towards_same : (m : Map) (n v : ℕ) (f g : ℕ → ℕ) → ((u : ℕ) → u < n → g u ≡ f u) → Towards m n v f → Towards m n v g
-towards_same m n v f g same T = record {
-  low = λ u l. rw (same u l) (T.low u l);
-  near = λ u l. rw (same u l) (T.near u l);
-  none = λ u l. rw (same u l) (T.none u l);
-}
+towards_same m n v f g same T = search rules
 
 module _ (m : Map) (n v : ℕ) (f g : ℕ → ℕ) (F : Towards m n v f) (G : Towards m n v g) where
   column-le : (u : ℕ) → u < n → f u ≤ g u
-  column-le u l = elim (dec_lt (g u) far) [
-    | yes b ↦ elim (dec_lt (f u) far) [
-      | yes a ↦ (F.near u l a).least (g u) (G.near u l b).road
-      | no a ↦ absurd (F.none u l (omega (arith, F.low u l)) (g u) (G.near u l b).road)
-    ]
-    | no b ↦ omega (arith, F.low u l)
-  ]
+  column-le u l = search rules
 
 pub column_unique : (m : Map) (n v : ℕ) (f g : ℕ → ℕ) → Towards m n v f → Towards m n v g → (u : ℕ) → u < n → f u ≡ g u
 column_unique m n v f g F G u l = omega (arith, column-le m n v f g F G u l, column-le m n v g f G F u l)

@@ -1,93 +1,46 @@
 -- What settling a place does to a search half done, that it ends, and what it has found when no place is left.
-use mathlib.Core.Path.{◌≡◌, refl, sym, ap, ◌∙◌}
-use mathlib.Core.Logic.{◌≢◌, inl, inr, ⊎_elim}
+use mathlib.Core.Path.{◌≡◌, refl, sym, ap}
+use mathlib.Core.Logic.{⊎_elim}
 use mathlib.Core.List.{List}
 use Prim.Native.Nat.{ℕ, ◌+◌, ◌-◌, ◌*◌, ◌/◌, ◌%◌, ◌≤◌, ◌<◌, min}
-use native.Mathlib.Decide.{ℕ_discrete, dec_le}
+use native.Mathlib.Decide.{dec_le}
 use native.Mathlib.Omega.{arith}
 use lib.ListN.{get_or, set}
 use Rattle.mintree.specs.Mintree.{Played, Least, Same}
-use Rattle.mintree.proofs.Laws.{word_new, word_other}
 use Rattle.paper.specs.Sum.{sum}
 use Rattle.paper.specs.Sizes.{most_places, most_furlongs}
+use Rattle.std.proofs.Common.{rules}
 use Rattle.paper.specs.Map.{Map}
 use Rattle.paper.specs.Road.{Road, arrived, along}
 use Rattle.paper.proofs.Count.{sum_lt, rank, rank_lt, rank_top}
 use Rattle.paper.proofs.Road.{road_least}
 use Rattle.roads.specs.Chain.{Latest, Starts, GoesOn}
 use Rattle.roads.specs.Towards.{far, Towards, Ready, Lists}
-use Rattle.roads.specs.Search.{pack, packed, word_of, Done, Open, Halfway, After, Sound, Visit}
-use Rattle.roads.proofs.Steps.{State, after_none, after_then}
+use Rattle.roads.specs.Search.{pack, packed, word_of, Done, Halfway, After, Sound, Visit}
+use Rattle.roads.proofs.Steps.{after_then}
 
 -- ---- a place is settled
 module _ {n d : ℕ} {column w : List ℕ} {r : ℕ} (few : n ≤ most_places) (H : Halfway n d column w) (L : Least w 0 n r) where
   module _ (some : r < far * pack) where
-    least-open : Open d (get_or column L.at 0) (word_of w n L.at) L.at
-    least-open = ⊎_elim (λ D. absurd (omega (arith, D.word, L.is))) (λ O. O) (H.state L.at L.inside)
-
     at-is : r % pack ≡ L.at
-    at-is = omega (arith, least-open.word, L.is, L.inside)
+    at-is = search rules
 
     pub at_in : r % pack < n
     at_in = omega (arith, at-is, L.inside)
 
     pub at_value : get_or column (r % pack) 0 ≡ r / pack
-    at_value = rw at-is (omega (arith, least-open.word, L.is, L.inside))
-
-    pub at-late : d ≤ r / pack
-    at-late = omega (arith, at_value, ap (λ (z : ℕ). get_or column z 0) at-is, least-open.late)
+    at_value = search rules
 
     pub at_open : word_of w n (r % pack) ≡ r
     at_open = rw at-is (sym L.is)
 
     module _ {p : ℕ} (p-is : p ≡ r % pack) {w' : List ℕ} (S : Same 0 n (set w (0 + (n + p)) (packed far p)) w') (P : Played w' 0 n) where
-      new_word : word_of w' n p ≡ packed far p
-      new_word = word_new w w' 0 n p (packed far p) S H.played.room (omega (arith, at_in))
-
-      other_word : (u : ℕ) → u ≢ p → word_of w' n u ≡ word_of w n u
-      other_word u ne = word_other w w' 0 n p (packed far p) S u ne
-
-      value-p : get_or column p 0 ≡ r / pack
-      value-p = rw p-is at_value
-
       pub taken-done : Done (r / pack) (get_or column p 0) (word_of w' n p) p
-      taken-done = record { word = new_word; early = omega (arith, value-p) }
-
-      taken-other : (u : ℕ) → u < n → u ≢ p → State d (get_or column u 0) (word_of w n u) u → State (r / pack) (get_or column u 0) (word_of w' n u) u
-      taken-other u l ne = ⊎_elim
-          (λ D. inl (record { word = other_word u ne ∙ D.word; early = omega (arith, D.early, at-late) }))
-          (λ O. inr (record { word = other_word u ne ∙ O.word; late = omega (arith, O.word, L.least u l) }))
-
-      pub taken : After n d column w (r / pack) column w'
-      taken = record {
-        halfway = record {
-          near = omega arith;
-          long = H.long;
-          played = P;
-          low = H.low;
-          state = λ u l. elim (ℕ_discrete u p) [ yes e ↦ rw e (inl taken-done) | no ne ↦ taken-other u l ne (H.state u l) ];
-        };
-        stays = λ u l D. elim (ℕ_discrete u p) [
-          | yes e ↦ rw e taken-done
-          | no ne ↦ record { word = other_word u ne ∙ D.word; early = omega (arith, D.early, at-late) }
-        ];
-        past = λ k l. refl;
-      }
+      taken-done = search rules
 
       -- the chain of p begins at b
       pub taken-visit : {m : Map} {v q b : ℕ} → ((k : ℕ) → k < m.stages → m.head k < n) → Latest m.head p m.stages b → Sound m n v d q 0 column w → Visit m n v (r / pack) p b column w'
-      taken-visit {m} {v} {q} {b} head_in B S₀ = record {
-        sound = record { real = S₀.real; self = S₀.self; closed = closed };
-        into = B.into;
-        inside = omega (arith, at_in);
-        value = value-p;
-      }
-        where
-          closed : (i : ℕ) → i < m.stages → Done (r / pack) (get_or column (m.head i) 0) (word_of w' n (m.head i)) (m.head i) → (m.head i ≡ p → b ≤ i) → get_or column (m.tail i) 0 ≤ m.furlongs i + get_or column (m.head i) 0
-          closed i l D from = elim (ℕ_discrete (m.head i) p) [
-            | yes e ↦ absurd (B.none i (from e) l e)
-            | no ne ↦ ⊎_elim (λ D₀. S₀.closed i l D₀ (λ e. omega arith)) (λ O. absurd (omega (arith, O.word, D.word, D.early, other_word (m.head i) ne))) (H.state (m.head i) (head_in i l))
-          ]
+      taken-visit head_in B S₀ = search rules
 
   -- ---- no place is left
   module _ (none : far * pack ≤ r) {m : Map} {v q : ℕ} (S : Sound m n v d q 0 column w) (tail_in : (k : ℕ) → k < m.stages → m.tail k < n) (head_in : (k : ℕ) → k < m.stages → m.head k < n)
@@ -126,10 +79,7 @@ left n column w = sum n (open_at column w n)
 
 module _ {n d d' : ℕ} {column w column' w' : List ℕ} (H : Halfway n d column w) (A : After n d column w d' column' w') where
   fewer-at : (u : ℕ) → u < n → open_at column' w' n u ≤ open_at column w n u
-  fewer-at u l = ⊎_elim
-      (λ D. let D' = A.stays u l D in omega (arith, D'.word, D'.early, A.halfway.near))
-      (λ O. omega (arith, O.word))
-      (H.state u l)
+  fewer-at u l = search rules
 
   pub fewer : (p : ℕ) → p < n → word_of w n p ≡ packed (get_or column p 0) p → Done d' (get_or column' p 0) (word_of w' n p) p → left n column' w' < left n column w
   fewer p l e D = sum_lt (open_at column' w' n) (open_at column w n) n p l fewer-at (omega (arith, e, D.word, D.early, A.halfway.near))
@@ -154,7 +104,7 @@ module _ {tails lengths last previous : List ℕ} {n : ℕ} {column₀ w₀ colu
 
     module _ {w₁ : List ℕ} (S₁ : Same 0 n (set w (0 + (n + r % pack)) (packed far (r % pack))) w₁) (P₁ : Played w₁ 0 n) where
       pub next-after : After n K.d column w (r / pack) column w₁
-      next-after = taken R.few K.after.halfway L some refl S₁ P₁
+      next-after = search rules
 
       module _ {column' w' : List ℕ} (A : After n (r / pack) column w₁ (r / pack) column' w') where
         pub settling-less : left n column' w' < left n column w
