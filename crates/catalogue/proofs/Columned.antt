@@ -8,7 +8,7 @@ use Rattle.paper.specs.Sizes.{word_bytes}
 use Rattle.paper.specs.Words.{bytes_of, written}
 use Rattle.text.specs.Put.{Put}
 use Rattle.truth.proofs.Area.{Storing, storing_none, storing_more, storing_all, in_area}
-use Rattle.catalogue.specs.Handed.{StoredIn}
+use Rattle.truth.specs.Table.{StoredIn}
 use Rattle.catalogue.proofs.Puts.{set_at}
 
 -- the first k words of column v are stored in the words that stand at the start of b
@@ -28,5 +28,5 @@ storing_in_more {n} {v} {k} {column} {words} {b} {u} after p q room S P = record
   bytes = set_at word_bytes (k * n + v) (get_or column k 0) S.words' b u after (omega (arith, in_area n k v q p, S.storing.size)) S.bytes P;
 }
 
-pub storing_in_all : {n v k : ℕ} {column words b after : List ℕ} → n ≤ k → StoringIn n v k column words b after → StoredIn n v column words b after
-storing_in_all h S = record { words' = S.words'; stored = storing_all _ _ _ _ _ _ h S.storing; bytes = S.bytes }
+pub storing_in_all : {n v k : ℕ} {column words b after : List ℕ} → n ≤ k → StoringIn n v k column words b after → StoredIn (written word_bytes) n v column words b after
+storing_in_all h S = record { words' = S.words'; stored = storing_all _ _ _ _ _ _ h S.storing; there = S.bytes }

@@ -7,19 +7,10 @@ use Rattle.paper.specs.Slice.{Untouched}
 use Rattle.paper.specs.Words.{written}
 use Rattle.paper.specs.Reply.{lines_out}
 use Rattle.paper.specs.Host.{HostReply}
-use Rattle.truth.specs.Table.{Stored}
-use Rattle.nearest.specs.declared.walk.Walked.{Walked}
-use Rattle.nearest.specs.declared.walk.Walked.TheVariants as walked
 
 -- the number, with the three slices at exit
 abbrev pub handed : ℕ → List ℕ → List ℕ → List ℕ → HostReply
 handed number answer working counts = record { number = number; answer = answer; working = working; counts = counts }
-
--- column v of the table is stored in the words that stand at the start of b
-pub record StoredIn (n v : ℕ) (column words b after : List ℕ) : Type 0 where
-  pub words' : List ℕ
-  pub stored : Stored n v column words words'
-  pub bytes : after ≡ written word_bytes words' b
 
 -- the list of a walk, as it stands in the answer
 pub record ListedIn (r : Served State) (answer answer' : List ℕ) (total : ℕ) : Type 0 where
@@ -32,8 +23,3 @@ pub record ListedIn (r : Served State) (answer answer' : List ℕ) (total : ℕ)
 pub record Past (k : ℕ) (answer answer' : List ℕ) : Type 0 where
   pub long : length answer' ≡ length answer
   pub rest : Untouched (long_bytes * (line_words * k)) answer answer'
-
--- the walk whose outcome by the definitions is r, for k offices; the answer slice at entry and at exit
-abbrev pub CameOut : ℕ → Served State → List ℕ → List ℕ → Walked → Type 0
-CameOut k r answer answer' (walked.Done total) = ListedIn r answer answer' total
-CameOut k r answer answer' (walked.Refused n) = (r ≡ refused n) × Past k answer answer'

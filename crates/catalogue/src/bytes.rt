@@ -4,7 +4,7 @@ ghost use Rattle.paper.specs.Sizes.{word_bytes, long_bytes, most_places};
 ghost use Rattle.paper.specs.Slice.{cleared};
 ghost use Rattle.paper.specs.Words.{bytes_of, written};
 ghost use Rattle.text.specs.Put.{Put};
-ghost use Rattle.catalogue.specs.Handed.{StoredIn};
+ghost use Rattle.truth.specs.Table.{StoredIn};
 
 use paper::sizes::{LONG_BYTES, WORD_BYTES};
 
@@ -47,7 +47,7 @@ pub fn put_longs(bytes: &mut [u8], words: &[u64], n: usize)
 // The distance from u to v is word u × n + v.
 pub fn store_column(bytes: &mut [u8], n: usize, v: usize, column: &[u32])
     requires { (v < n) × (n ≤ most_places) × (word_bytes * (n * n) ≤ length bytes.old) × (n ≤ length column.now) }
-    ensures { (words b : List ℕ) → n * n ≤ length words → word_bytes * length words ≤ length b → bytes.old ≡ written word_bytes words b → StoredIn n v column.now words b bytes.new }
+    ensures { (words b : List ℕ) → n * n ≤ length words → word_bytes * length words ≤ length b → bytes.old ≡ written word_bytes words b → StoredIn (written word_bytes) n v column.now words b bytes.new }
 {
     for u in 0..n {
         put_word(bytes, WORD_BYTES * (u * n + v), column[u]);

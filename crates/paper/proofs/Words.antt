@@ -11,7 +11,7 @@ use Rattle.paper.specs.Sizes.{word_bytes, long_bytes}
 use Rattle.paper.specs.Layout.{Bytes}
 use Rattle.paper.specs.Sheet.{word}
 use Rattle.paper.specs.Slice.{cleared}
-use Rattle.paper.specs.Words.{bytes_of, number_in, words_of, as_bytes, written, Fit}
+use Rattle.paper.specs.Words.{bytes_of, number_in, words_of, words_held, as_bytes, written, Fit}
 use Rattle.paper.proofs.Cleared.{cleared_size}
 
 -- lengths
@@ -235,3 +235,10 @@ bytes_split (suc w) v x =
 
 pub bytes_halves : (x : ℕ) → bytes_of long_bytes x ≡ bytes_of word_bytes (x % 256 ^ word_bytes) ++ bytes_of word_bytes (x / 256 ^ word_bytes)
 bytes_halves x = bytes_split word_bytes word_bytes x ∙ ap (λ (l : List ℕ). l ++ bytes_of word_bytes (x / 256 ^ word_bytes)) (sym (bytes_low word_bytes x))
+
+-- as many words stand in bytes as before, once as many are written
+pub held_kept : (words b : List ℕ) → length words ≡ length (words_held b) → length (words_held (written word_bytes words b)) ≡ length (words_held b)
+held_kept words b e =
+    let W : List ℕ = written word_bytes words b in
+    let held : length (words_held b) ≡ length b / word_bytes = words_size word_bytes (length b / word_bytes) b in
+    words_size word_bytes (length W / word_bytes) W ∙ ap (λ (n : ℕ). n / word_bytes) (written_size word_bytes words b (omega (arith, e, held))) ∙ sym held
