@@ -13,10 +13,10 @@ use Rattle.paper.specs.declared.Counts.{Counts}
 use Rattle.paper.specs.Served.{served, refused}
 use Rattle.paper.specs.Sizes.{most_places}
 use Rattle.paper.specs.Map.{Map}
-use Rattle.paper.specs.Sheet.{word, map_of, offices_in, offices_of}
-use Rattle.paper.specs.Layout.{sections, places_hold, stages_hold, blocks_hold, offices_hold, layout}
+use Rattle.paper.specs.Sheet.{word, offices_in}
+use Rattle.paper.specs.Layout.{sections, offices_hold, layout}
 use Rattle.paper.proofs.Test.{every_of, every_false}
-use Rattle.sheet.specs.Laid.{counts_of, laid_by, laid_of, Sectioned}
+use Rattle.sheet.specs.Laid.{laid_by, laid_of, Sectioned}
 use Rattle.sheet.specs.Records.{Zeros}
 use Rattle.sheet.proofs.Room.{out_by, refused_by}
 
@@ -52,25 +52,3 @@ module _ (s : List ℕ) where
   pub refused_early : (n : ℕ) → refused n ≡ laid_by s (sections s) → refused n ≡ laid_of s
   unfolding laid_of layout
   refused_early n h = let (d, e, f) = refused_by s n (sections s) h in rw f (ap refused e)
-
--- and then the records of each section
-module _ (s : List ℕ) (whole : sections s ≡ 0) where
-  pub refused_3 : places_hold (map_of s) ≡ false → refused 3 ≡ laid_of s
-  unfolding laid_of layout
-  refused_3 p = rw (whole, p)
-
-  pub refused_4 : places_hold (map_of s) ≡ true → stages_hold (map_of s) ≡ false → refused 4 ≡ laid_of s
-  unfolding laid_of layout
-  refused_4 p t = rw (whole, p, t)
-
-  pub refused_5 : places_hold (map_of s) ≡ true → stages_hold (map_of s) ≡ true → blocks_hold (map_of s) ≡ false → refused 5 ≡ laid_of s
-  unfolding laid_of layout
-  refused_5 p t b = rw (whole, p, t, b)
-
-  pub refused_6 : places_hold (map_of s) ≡ true → stages_hold (map_of s) ≡ true → blocks_hold (map_of s) ≡ true → offices_hold (map_of s) (offices_of s) ≡ false → refused 6 ≡ laid_of s
-  unfolding laid_of layout
-  refused_6 p t b o = rw (whole, p, t, b, o)
-
-  pub laid_out : (c : Counts) → c ≡ counts_of s → places_hold (map_of s) ≡ true → stages_hold (map_of s) ≡ true → blocks_hold (map_of s) ≡ true → offices_hold (map_of s) (offices_of s) ≡ true → served c ≡ laid_of s
-  unfolding laid_of layout
-  laid_out c e p t b o = rw (whole, p, t, b, o) (ap served e)

@@ -64,6 +64,7 @@ pub fn list_at(counts: Counts) -> usize
 }
 
 // The rules that the records keep (3 to 6), where the sections are whole.
+#[tactic(auto, unfolding(crate::specs::Laid::laid_of, paper::specs::Layout::layout))]
 fn records(sheet: &[u8], counts: Counts) -> Result<(), Refusal>
     requires { Sectioned sheet.now counts }
     ensures { served_as (λ _. counts) result ≡ laid_of sheet.now }
