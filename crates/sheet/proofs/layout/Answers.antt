@@ -21,14 +21,8 @@ whole c = sectioned_by _ _ c.in_ok-counts.ensures
 due : (c : In_ok-records) → (layout c.args.sheet.now ≡ 0) × (c.in_ok-counts.counts ≡ counts_of c.args.sheet.now)
 due c = laid_counts _ _ c.in_ok-records.ensures
 
-pub records-requires : goal.records-requires
-records-requires c = sectioned_by _ _ c.in_ok-counts.ensures
-
 pub returns-in_err-counts-clause-counts : goal.returns-in_err-counts-clause-counts
 returns-in_err-counts-clause-counts c = let p = err_from_is_err_and c.from_residual.result c.from_residual.ensures.1 in rw (p.1, p.2) (refused_early _ _ c.in_err-counts.ensures)
-
-pub returns-in_err-records-clause-counts : goal.returns-in_err-records-clause-counts
-returns-in_err-records-clause-counts c = let p = err_from_is_err_and c.from_residual-in_err-records.result c.from_residual-in_err-records.ensures.1 in rw (p.1, p.2) c.in_err-records.ensures
 
 pub list_at-requires : goal.list_at-requires
 list_at-requires c = (room _ _ (parted _ _ (whole (goal.at.list_at-requires c).In_ok-counts))).within
@@ -46,6 +40,3 @@ pub invariant_of-result-2 : goal.invariant_of-result-2
 invariant_of-result-2 c =
     let (h, e) = due (goal.at.invariant_of-result-2 c).In_ok-records in
     record { roll = subst (λ (l : List ℕ). Roll l c.in_ok-counts.counts.offices c.in_ok-counts.counts.places) (sym (rest_is _ _ _ c.list_at.ensures)) (laid_roll _ _ h e) }
-
-pub returns-clause-counts : goal.returns-clause-counts
-returns-clause-counts c = c.in_ok-records.ensures

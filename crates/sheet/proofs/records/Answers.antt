@@ -37,9 +37,6 @@ slice_bounds-offices_hold-count c = omega (arith, c.list_at.ensures, offices_end
 pub slice_bounds-offices_hold-start : goal.slice_bounds-offices_hold-start
 slice_bounds-offices_hold-start c = omega (arith, c.list_at.ensures, offices_end _ _ c.requires)
 
-pub slice_bounds-offices_hold-end : goal.slice_bounds-offices_hold-end
-slice_bounds-offices_hold-end c = omega (arith, c.list_at.ensures, offices_end _ _ c.requires)
-
 pub returns-then-not-offices_hold : goal.returns-then-not-offices_hold
 unfolding laid_of layout
 returns-then-not-offices_hold c = rw (c.requires.whole, ← c.if-not-places_hold.ensures, ← c.if-not-stages_hold.ensures.value, ← c.if-not-blocks_hold.ensures, ← tested (goal.at.returns-then-not-offices_hold c).After-offices_hold, c.if-not-offices_hold.true)

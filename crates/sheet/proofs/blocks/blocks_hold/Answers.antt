@@ -33,9 +33,6 @@ loop-i-init c = (omega arith, blocked_start _)
 pub read_block-block-requires : goal.read_block-block-requires
 read_block-block-requires c = let R = room _ _ c.requires.parted in (omega (arith, R), omega (arith, R))
 
-pub block_holds-requires : goal.block_holds-requires
-block_holds-requires c = c.requires.places_in_bounds
-
 pub returns-then-not-block_holds : goal.returns-then-not-block_holds
 returns-then-not-block_holds c = block_fails _ _ (omega (arith, room _ _ c.requires.parted)) (sym (tested (goal.at.returns-then-not-block_holds c).After-block_holds) ∙ c.if-not-block_holds.true)
 
@@ -53,9 +50,6 @@ cells_under-requires c = (small (goal.at.cells_under-requires c).Else-not-block_
 
 pub overflow_add-from : goal.overflow_add-from
 overflow_add-from c = omega (arith, small (goal.at.overflow_add-from c).Else-not-block_holds, (holds (goal.at.overflow_add-from c).Else-not-block_holds).cells, cells (goal.at.overflow_add-from c).After-cells_under)
-
-pub loop-i-smaller : goal.loop-i-smaller
-loop-i-smaller c = omega arith
 
 pub loop-i-preserved : goal.loop-i-preserved
 loop-i-preserved c =

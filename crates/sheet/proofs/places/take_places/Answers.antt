@@ -50,8 +50,3 @@ loop-i-preserved c =
       simp length-set c.loop-i.invariant.2,
       placed_step c.loop-i.invariant.3 _ _ (held (goal.at.loop-i-preserved c).Else-not-place_holds) (omega (arith, G, c.cell_of-cell.ensures, c.gazetteer_of-gazetteer.ensures)) (omega (arith, p, c.loop-i.invariant.1)) (omega (arith, p, c.loop-i.invariant.2)),
     )
-
-pub returns : goal.returns
-returns c =
-    let e : c.loop-i.i ≡ c.args.counts.places = omega (arith, c.loop-i.invariant.0) in
-    let P = rw e at c.loop-i.invariant.3 in record { value = sym P.each; taken = λ t. P.taken }

@@ -10,7 +10,7 @@ use Rattle.paper.specs.Sheet.{map_of}
 use Rattle.paper.specs.Slice.{Untouched}
 use Rattle.sheet.proofs.Staged.{Held, held, stage_fails, staged_start, staged-step, staged_end, out_of_order, ninth}
 use Rattle.sheet.proofs.Room.{room}
-use Rattle.sheet.proofs.stages.stages_hold.Goals.{After-stage_holds, At-loop-i, Else-not-stage_holds}
+use Rattle.sheet.proofs.stages.stages_hold.Goals.{After-stage_holds, Else-not-stage_holds}
 use Rattle.sheet.proofs.stages.stages_hold.Goals as goal
 
 -- the test of the stage is that of the paper
@@ -24,10 +24,6 @@ holds c = let R = room _ _ c.requires.parted in held _ _ (omega (arith, R)) (ome
 small : (c : Else-not-stage_holds) → let t = c.read_stage-stage.result in let n = c.args.counts.places in (t.tail < n) × (t.head < n) × (n ≤ most_places) × (n ≤ length c.loop-i.leaving)
 small c = omega (arith, holds c, c.read_stage-stage.ensures, c.loop-i.invariant.2.long, (room _ _ c.requires.parted))
 
--- the words beyond the places
-beyond : (c : At-loop-i) → Untouched c.args.counts.places c.args.leaving.now c.loop-i.leaving
-beyond c k p = c.loop-i.invariant.2.beyond k (omega (arith, room _ _ c.requires.parted))
-
 pub stages_at-at-requires : goal.stages_at-at-requires
 stages_at-at-requires c = (room _ _ c.requires.parted).within
 
@@ -37,8 +33,8 @@ loop-i-init c = (omega arith, refl, staged_start _ _ _ c.requires.parted.places 
 pub read_stage-stage-requires : goal.read_stage-stage-requires
 read_stage-stage-requires c = let R = room _ _ c.requires.parted in (omega (arith, R), omega (arith, R))
 
-pub returns-then-not-stage_holds : goal.returns-then-not-stage_holds
-returns-then-not-stage_holds c = record { value = stage_fails _ _ (omega (arith, room _ _ c.requires.parted)) (sym (tested (goal.at.returns-then-not-stage_holds c).After-stage_holds) ∙ c.if-not-stage_holds.true); leaving = (λ y. true_false y refl); untouched = beyond (goal.at.returns-then-not-stage_holds c).At-loop-i }
+pub returns-then-not-stage_holds-clause-value : goal.returns-then-not-stage_holds-clause-value
+returns-then-not-stage_holds-clause-value c = stage_fails _ _ (omega (arith, room _ _ c.requires.parted)) (sym (tested (goal.at.returns-then-not-stage_holds-clause-value c).After-stage_holds) ∙ c.if-not-stage_holds.true)
 
 pub overflow_mul-key : goal.overflow_mul-key
 overflow_mul-key c = omega (arith, small (goal.at.overflow_mul-key c).Else-not-stage_holds)
@@ -46,23 +42,14 @@ overflow_mul-key c = omega (arith, small (goal.at.overflow_mul-key c).Else-not-s
 pub overflow_add-key : goal.overflow_add-key
 overflow_add-key c = omega (arith, small (goal.at.overflow_add-key c).Else-not-stage_holds)
 
-pub returns-then-key-from : goal.returns-then-key-from
-returns-then-key-from c = record { value = out_of_order c.loop-i.invariant.2 (holds (goal.at.returns-then-key-from c).Else-not-stage_holds) (omega (arith, c.read_stage-stage.ensures)); leaving = (λ y. true_false y refl); untouched = beyond (goal.at.returns-then-key-from c).At-loop-i }
-
-pub offset_bounds-leaving-tail : goal.offset_bounds-leaving-tail
-offset_bounds-leaving-tail c = omega (arith, small (goal.at.offset_bounds-leaving-tail c).Else-not-stage_holds)
+pub returns-then-key-from-clause-value : goal.returns-then-key-from-clause-value
+returns-then-key-from-clause-value c = out_of_order c.loop-i.invariant.2 (holds (goal.at.returns-then-key-from-clause-value c).Else-not-stage_holds) (omega (arith, c.read_stage-stage.ensures))
 
 pub bounds-leaving-tail : goal.bounds-leaving-tail
 bounds-leaving-tail c = omega (arith, small (goal.at.bounds-leaving-tail c).Else-not-stage_holds)
 
-pub returns-then-before-ge-MOST_LEAVING : goal.returns-then-before-ge-MOST_LEAVING
-returns-then-before-ge-MOST_LEAVING c = record { value = ninth c.loop-i.invariant.2 (holds (goal.at.returns-then-before-ge-MOST_LEAVING c).Else-not-stage_holds) _ (sym c.read_stage-stage.ensures.tail) (omega (arith, c.if-before-ge-MOST_LEAVING.true)); leaving = (λ y. true_false y refl); untouched = beyond (goal.at.returns-then-before-ge-MOST_LEAVING c).At-loop-i }
-
-pub overflow_add-leaving : goal.overflow_add-leaving
-overflow_add-leaving c = omega arith
-
-pub offset_bounds-leaving-tail-in-loop-i : goal.offset_bounds-leaving-tail-in-loop-i
-offset_bounds-leaving-tail-in-loop-i c = omega (arith, small (goal.at.offset_bounds-leaving-tail-in-loop-i c).Else-not-stage_holds)
+pub returns-then-before-ge-MOST_LEAVING-clause-value : goal.returns-then-before-ge-MOST_LEAVING-clause-value
+returns-then-before-ge-MOST_LEAVING-clause-value c = ninth c.loop-i.invariant.2 (holds (goal.at.returns-then-before-ge-MOST_LEAVING-clause-value c).Else-not-stage_holds) _ (sym c.read_stage-stage.ensures.tail) (omega (arith, c.if-before-ge-MOST_LEAVING.true))
 
 pub bounds-leaving-tail-in-loop-i : goal.bounds-leaving-tail-in-loop-i
 bounds-leaving-tail-in-loop-i c = omega (arith, small (goal.at.bounds-leaving-tail-in-loop-i c).Else-not-stage_holds)
@@ -70,14 +57,14 @@ bounds-leaving-tail-in-loop-i c = omega (arith, small (goal.at.bounds-leaving-ta
 pub overflow_add-from : goal.overflow_add-from
 overflow_add-from c = omega (arith, small (goal.at.overflow_add-from c).Else-not-stage_holds)
 
-pub loop-i-smaller : goal.loop-i-smaller
-loop-i-smaller c = omega arith
-
 pub loop-i-preserved : goal.loop-i-preserved
 loop-i-preserved c =
     let l = c.loop-i in
     let t = c.read_stage-stage.ensures in
     (omega arith, simp length-set l.invariant.1, staged-step l.invariant.2 (holds (goal.at.loop-i-preserved c).Else-not-stage_holds) _ (sym t.tail) _ (omega (arith, t)) (omega (arith, c.if-before-ge-MOST_LEAVING.false)) (omega (arith, t)))
 
-pub returns : goal.returns
-returns c = let k = staged_end c.loop-i.invariant.2 (omega (arith, c.loop-i.invariant.0, room _ _ c.requires.parted)) in record { value = k.0; leaving = (λ y. k.1); untouched = beyond (goal.at.returns c).At-loop-i }
+pub returns-clause-value : goal.returns-clause-value
+returns-clause-value c = (staged_end c.loop-i.invariant.2 (omega (arith, c.loop-i.invariant.0, room _ _ c.requires.parted))).0
+
+pub returns-clause-leaving : goal.returns-clause-leaving
+returns-clause-leaving c y = (staged_end c.loop-i.invariant.2 (omega (arith, c.loop-i.invariant.0, room _ _ c.requires.parted))).1

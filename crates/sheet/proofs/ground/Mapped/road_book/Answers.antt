@@ -16,22 +16,13 @@ from c = omega (arith, (room _ _ c.args.self.now.keeps.parts).stages_at_lem, c.s
 pub stages_at-at-requires : goal.stages_at-at-requires
 stages_at-at-requires c = (room _ _ c.args.self.now.keeps.parts).within
 
-pub overflow_add-at : goal.overflow_add-at
-overflow_add-at c = omega (arith, (room _ _ c.args.self.now.keeps.parts).within)
-
 pub column-requires : goal.column-requires
 column-requires c = let R = room _ _ c.args.self.now.keeps.parts in (R.within.stages, c.requires.tail, λ i p. omega (arith, R))
-
-pub overflow_add-at-2 : goal.overflow_add-at-2
-overflow_add-at-2 c = omega (arith, (room _ _ c.args.self.now.keeps.parts).within, c.stages_at-at.ensures)
 
 pub column-requires-2 : goal.column-requires-2
 column-requires-2 c =
     let R = room _ _ c.args.self.now.keeps.parts in
     (R.within.stages, c.requires.head, λ i p. omega (arith, R))
-
-pub overflow_add-at-3 : goal.overflow_add-at-3
-overflow_add-at-3 c = omega (arith, (room _ _ c.args.self.now.keeps.parts).within, c.stages_at-at.ensures)
 
 pub column-requires-3 : goal.column-requires-3
 column-requires-3 c =
