@@ -17,7 +17,6 @@ ghost use Rattle.sheet.specs.Laid.{Sectioned, Within, stages_from, blocks_from, 
 
 pub use blocks::Block;
 pub use ground::{Chart, Ground, Mapped, Sheet};
-
 use paper::sizes::{BLOCK_WORDS, MOST_PLACES, PLACE_WORDS, STAGE_WORDS, WORD_BYTES};
 use paper::{Counts, Refusal};
 

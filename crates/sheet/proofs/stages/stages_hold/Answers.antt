@@ -3,11 +3,9 @@ use mathlib.Core.Path.{◌≡◌, refl, sym, ◌∙◌}
 use Prim.Native.Nat.{◌<◌, ◌≤◌}
 use native.Mathlib.Omega.{arith}
 use lib.ListN.{length, length-set}
-use Rattle.paper.proofs.Test.{true_false}
 use Rattle.paper.specs.Sizes.{most_places}
 use Rattle.paper.specs.Layout.{stage_holds}
 use Rattle.paper.specs.Sheet.{map_of}
-use Rattle.paper.specs.Slice.{Untouched}
 use Rattle.sheet.proofs.Staged.{Held, held, stage_fails, staged_start, staged-step, staged_end, out_of_order, ninth}
 use Rattle.sheet.proofs.Room.{room}
 use Rattle.sheet.proofs.stages.stages_hold.Goals.{After-stage_holds, Else-not-stage_holds}
