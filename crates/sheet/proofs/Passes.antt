@@ -1,13 +1,14 @@
--- The layout as one test after the other.
-use Prim.Native.Nat.{ℕ, zero, suc, ◌/◌, ◌≤◌, ◌<◌}
+-- What the layout passes on its way: the sections, a fresh list of how many stages leave, and the offices of the list.
+use Prim.Native.Nat.{ℕ, ◌/◌, ◌≤◌, ◌<◌}
 use native.Mathlib.Omega.{arith}
-use mathlib.Core.Path.{◌≡◌, refl, sym, ap}
+use mathlib.Core.Path.{◌≡◌, sym, ap}
 use mathlib.Core.Bool.{Bool, true, false}
 use mathlib.Core.List.{List}
 use lib.ListN.{length, get_or, replicate, length-replicate}
 use borrow.Author.Tests.{le-ltb, lt-ltb}
 use Rattle.std.specs.Bool.{MatchBool}
 use Rattle.std.specs.List.{range_with_len, AllWithin, HoldsAt}
+use Rattle.std.proofs.lemmas.List.{get_or-replicate}
 use Rattle.std.proofs.lemmas.List.FromFn.{length-range_with_len, get_or-range_with_len}
 use Rattle.paper.specs.declared.Counts.{Counts}
 use Rattle.paper.specs.Served.{served, refused}
@@ -37,12 +38,7 @@ module _ (m : Map) (l : List ℕ) (places : ℕ) where
 
 -- a fresh list counts no stage
 pub fresh : (n : ℕ) → n ≤ most_places → Zeros n (replicate most_places 0)
-fresh n h = record { long = omega (arith, length-replicate {A = ℕ} most_places 0); zeros = λ u p. zero-at most_places u }
-  where
-    zero-at : (k u : ℕ) → ◌≡◌ {A = ℕ} (get_or (replicate k 0) u 0) 0
-    zero-at zero u = refl
-    zero-at (suc k) zero = refl
-    zero-at (suc k) (suc u) = zero-at k u
+fresh n h = record { long = omega (arith, length-replicate {A = ℕ} most_places 0); zeros = λ u p. get_or-replicate most_places u 0 0 (omega arith) }
 
 -- what the sections come to
 module _ (s : List ℕ) where

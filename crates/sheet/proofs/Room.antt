@@ -1,7 +1,7 @@
 -- Where the records stand once the sections are whole: what `word` asks of whoever reads them.
 use Prim.Native.Nat.{ℕ, zero, suc, ◌+◌, ◌*◌, ◌≤◌}
 use native.Mathlib.Omega.{arith}
-use mathlib.Core.Path.{◌≡◌, refl, sym}
+use mathlib.Core.Path.{◌≡◌, refl}
 use mathlib.Core.List.{List}
 use lib.ListN.{length}
 use Rattle.paper.specs.declared.Counts.{Counts}
@@ -85,7 +85,3 @@ module _ (s : List ℕ) where
   pub laid_number : (n : ℕ) → refused n ≡ laid_of s → (d : ℕ) × (n ≡ suc d) × (layout s ≡ suc d)
   unfolding laid_of
   laid_number n = refused_by n (layout s)
-
--- a word that was read, by another name of its place
-pub word_is : (s : List ℕ) (r i j : ℕ) → r ≡ word s j → i ≡ j → word s i ≡ r
-word_is s r i j h e = rw e (sym h)
