@@ -140,9 +140,6 @@ prefix_next m x {i} {w} P p long w' S =
     let e : i + 1 ≡ suc i = omega arith in
     rw (e, S.written) (prefix-more m x P p S.trail S.begun (fresh_stages m (x.from i) (x.to i) S.trail S.begun) S.sane S.side long S.stored)
 
-pub built_beyond : (n : ℕ) (w w' : List ℕ) → Same (tree_at n) n w w' → Beyond (slot_words * n) w w'
-built_beyond n w w' C = record { long = C.long; rest = λ k p. C.after k (omega arith) }
-
 -- every first interval stands in the slice, and the tree is built; the code counts n offices
 pub started_all : (m : Map) (x : Quest) (n i : ℕ) (w : List ℕ) → n ≡ x.count → i ≡ n → Prefix m x i w → n ≤ most_offices → slot_words * n ≤ length w
     → (w' : List ℕ) → Same (tree_at n) n w w' → Played w' (tree_at n) n → StartedAll m x w'

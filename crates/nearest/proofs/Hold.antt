@@ -35,18 +35,8 @@ module _ {i : ℕ} {t : Trail} {w w' : List ℕ} (S : Stored i t w w') where
       go (yes p) = side_same (λ k h l. S.before k (omega arith))
       go (no p) = side_same (λ k h l. S.after k (omega arith))
 
-  -- the tree stays as it was
-  pub stored_played : (n : ℕ) → i < n → Played w (tree_at n) n → Played w' (tree_at n) n
-  stored_played n p P = record {
-    room = record { some = P.room.some; ends = omega (arith, P.room.ends, S.long) };
-    node = λ q lo hi. omega (arith, P.node q lo hi, S.after (tree_at n + q) (omega arith), S.after (tree_at n + 2 * q) (omega arith), S.after (tree_at n + (2 * q + 1)) (omega arith));
-  }
-
   pub stored_key : (n j : ℕ) → i < n → key_in w' n j ≡ key_in w n j
   stored_key n j p = S.after (tree_at n + (n + j)) (omega arith)
-
-  pub stored_beyond : (n : ℕ) → i < n → Beyond (slot_words * n) w w'
-  stored_beyond n p = record { long = S.long; rest = λ k h. S.after k (omega arith) }
 
 module _ (n i v : ℕ) (w w' : List ℕ) (p : i < n) (C : Same (tree_at n) n (set w (tree_at n + (n + i)) v) w') where
   pub changed_side : (j : ℕ) (r : Trail) → j < n → Side w j r → Side w' j r

@@ -4,7 +4,6 @@ pub mod Put
 pub mod Going
 pub mod Begun
 pub mod Text
-pub mod Stores
 pub mod Take
 pub mod Steps
 pub mod Quests

@@ -45,17 +45,6 @@ module _ {places₀ n : ℕ} {w : List ℕ} (W : Waiting places₀ n w) (r : ℕ
   pub take_inside : r % most_offices < n
   take_inside = omega (arith, lead-number W.shown r L take_some, L.inside)
 
-  pub take_fits : side_words * (r % most_offices) + side_words ≤ length w
-  take_fits = omega (arith, take_inside, W.shown.long)
-
-  pub take_high : (t : Trail) → Side w (r % most_offices) t → t.high < end_below
-  take_high t X =
-      let S : Shown places₀ n w W.slots = W.shown in
-      let i : ℕ = L.at in
-      let waits : (at W.slots i).waits ≡ true = lead-waits S r L take_some in
-      let here : Side w i t = subst (λ (j : ℕ). Side w j t) (lead-number S r L take_some) X in
-      omega (arith, here.high, (S.held i L.inside waits).side.high, (S.sane i L.inside waits).high)
-
   module _ (places : ℕ) (ss : List Slot) (S : Shown places n w ss) (w' : List ℕ) (r' : ℕ) (P : Played w' (tree_at n) n) (L' : Least w' (tree_at n) n r') where
     -- the office that leads, by the tree's index
     led-at : (t : Trail) (i : ℕ) → i ≡ L.at → Side w i t → t.low ≡ low_of ss i → (at ss i).trail ≡ t
@@ -82,6 +71,3 @@ module _ {places₀ n : ℕ} {w : List ℕ} (W : Waiting places₀ n w) (r : ℕ
 
 pub beyond_same : (n : ℕ) (a : List ℕ) → Beyond n a a
 beyond_same n a = record { long = refl; rest = λ k p. refl }
-
-pub beyond_set : (n i x : ℕ) (a : List ℕ) → i < n → Beyond n a (set a i x)
-beyond_set n i x a p = record { long = length-set a i x; rest = λ k q. get_or-set_other a i k x 0 (omega arith) }
