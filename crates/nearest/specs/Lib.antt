@@ -1,3 +1,4 @@
 pub mod Working
 pub mod Going
 pub mod Question
+pub mod Errands

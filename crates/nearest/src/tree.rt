@@ -34,11 +34,10 @@ pub fn take_leader(working: &mut [u64], n: usize) -> Lead
     let trail = trail_at(working, number, Network(least / PACK));
     change(working, tree, n, number, GONE);
     let rest = top(working, tree, n);
-    let high = trail.high;
     Lead {
         number,
         trail,
-        clear: key(high, number) < rest,
+        clear: key(trail.high, number) < rest,
     }
 }
 
@@ -48,7 +47,6 @@ pub fn put_back(working: &mut [u64], n: usize, i: usize, t: Trail)
     ensures beyond { Beyond (slot_words * n) working.old working.new }
     ensures by_index { (places : ℕ) (ss : List Slot) → Shown places n working.old (retired ss i) → Sane places (trail_of t) → Shown places n working.new (refined ss i (trail_of t)) }
 {
-    let low = t.low;
     store(working, i, t);
-    change(working, SIDE_WORDS * n, n, i, key(low, i));
+    change(working, SIDE_WORDS * n, n, i, key(t.low, i));
 }

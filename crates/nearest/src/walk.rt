@@ -28,31 +28,29 @@ impl<'a> Errand<'a> {
     ghost use Rattle.paper.specs.Sizes.{line_words, slot_words};
     ghost use Rattle.paper.specs.Refusal.{served_as};
     ghost use Rattle.paper.specs.Map.{Map};
-    ghost use Rattle.paper.specs.Sheet.{map_of, offices_in};
     ghost use Rattle.paper.specs.Ground.{SameGround};
-    ghost use Rattle.paper.specs.Quest.{Quest as QuestOf};
     ghost use Rattle.paper.specs.Trail.{start as start_of, refine as refine_of};
     ghost use Rattle.paper.specs.Bounds.{Sane};
     ghost use Rattle.paper.specs.Listing.{Slot, State, line_of, begin, run, enough, listing};
     ghost use Rattle.sheet.specs.Charts.{OnChart};
     ghost use Rattle.quadtree.specs.Walks.{trail_of};
     ghost use Rattle.nearest.specs.Working.{Shown, Beyond};
-    ghost use Rattle.nearest.specs.Question.{quest_on};
+    ghost use Rattle.nearest.specs.Errands.{offices, places, ground, asked};
     ghost use Rattle.nearest.specs.Going.{Wrote, SomeMap, Fresh, Waiting, Begun, OneStarted, AllStarted, Stepped, Came};
 
     // The place at which office i of the list stands.
     fn stand(&self, i: usize) -> usize
-        requires { i < self.now.chart.ground.counts.offices }
-        ensures at { result ≡ (offices_in self.now.list.now).stand i }
-        ensures placed { result < self.now.chart.ground.counts.places }
+        requires { i < offices self.now }
+        ensures at { result ≡ (asked self.now).stand i }
+        ensures placed { result < places self.now }
     {
         word(self.list, i) as usize
     }
 
     // The trail of office i before any refinement.
     fn first_trail(&self, i: usize) -> Result<Trail, Refusal>
-        requires { i < self.now.chart.ground.counts.offices }
-        ensures { served_as trail_of result ≡ start_of (map_of self.now.chart.ground.bytes.now) ((quest_on self.now.list.now self.now.quest).from i) ((quest_on self.now.list.now self.now.quest).to i) }
+        requires { i < offices self.now }
+        ensures { served_as trail_of result ≡ start_of (ground self.now) ((asked self.now).from i) ((asked self.now).to i) }
     {
         let place = self.stand(i);
         let from = by_direction(self.quest.direction, self.quest.place, place);
@@ -62,8 +60,8 @@ impl<'a> Errand<'a> {
 
     // The trail t of office i after one refinement, on any map that has the chart.
     fn next_trail(&self, i: usize, t: Trail) -> Result<Trail, Refusal>
-        requires { (i < self.now.chart.ground.counts.offices) × (Sane self.now.chart.ground.counts.places (trail_of t)) }
-        ensures { (m : Map) → OnChart self.now.chart m → served_as trail_of result ≡ refine_of m ((quest_on self.now.list.now self.now.quest).to i) (trail_of t) }
+        requires { (i < offices self.now) × (Sane (places self.now) (trail_of t)) }
+        ensures { (m : Map) → OnChart self.now.chart m → served_as trail_of result ≡ refine_of m ((asked self.now).to i) (trail_of t) }
     {
         let place = self.stand(i);
         let sought = by_direction(self.quest.direction, place, self.quest.place);
@@ -72,9 +70,9 @@ impl<'a> Errand<'a> {
 
     // The first interval of office i, in the working slice.
     fn set_out(&self, i: usize, working: &mut [u64]) -> Result<(), Refusal>
-        requires { (i < self.now.chart.ground.counts.offices) × (slot_words * self.now.chart.ground.counts.offices ≤ length working.old) }
-        ensures beyond { Beyond (slot_words * self.now.chart.ground.counts.offices) working.old working.new }
-        ensures one_started { OneStarted (map_of self.now.chart.ground.bytes.now) (quest_on self.now.list.now self.now.quest) i working.old working.new result }
+        requires { (i < offices self.now) × (slot_words * offices self.now ≤ length working.old) }
+        ensures beyond { Beyond (slot_words * offices self.now) working.old working.new }
+        ensures one_started { OneStarted (ground self.now) (asked self.now) i working.old working.new result }
     {
         let n = self.chart.ground.counts.offices;
         let first = self.first_trail(i)?;
@@ -85,9 +83,9 @@ impl<'a> Errand<'a> {
 
     // The first intervals in office order.
     fn set_out_all(&self, working: &mut [u64]) -> Result<(), Refusal>
-        requires { (1 ≤ self.now.chart.ground.counts.offices) × (slot_words * self.now.chart.ground.counts.offices ≤ length working.old) }
-        ensures beyond { Beyond (slot_words * self.now.chart.ground.counts.offices) working.old working.new }
-        ensures all_started { AllStarted (map_of self.now.chart.ground.bytes.now) (quest_on self.now.list.now self.now.quest) working.new result }
+        requires { (1 ≤ offices self.now) × (slot_words * offices self.now ≤ length working.old) }
+        ensures beyond { Beyond (slot_words * offices self.now) working.old working.new }
+        ensures all_started { AllStarted (ground self.now) (asked self.now) working.new result }
     {
         let n = self.chart.ground.counts.offices;
         for i in 0..n {
@@ -100,26 +98,24 @@ impl<'a> Errand<'a> {
     // One step: the leader is listed, or refined once and nobody is listed.
     fn advance(&self, working: &mut [u64]) -> Result<Option<(usize, Trail)>, Refusal>
         requires charted { SomeMap self.now.chart }
-        requires waiting { Waiting self.now.chart.ground.counts.places self.now.chart.ground.counts.offices working.old }
-        ensures beyond { Beyond (slot_words * self.now.chart.ground.counts.offices) working.old working.new }
-        ensures stepped { (m : Map) → OnChart self.now.chart m → (st : State) → Shown self.now.chart.ground.counts.places self.now.chart.ground.counts.offices working.old st.slots → Stepped m (quest_on self.now.list.now self.now.quest) st working.new result }
+        requires waiting { Waiting (places self.now) (offices self.now) working.old }
+        ensures beyond { Beyond (slot_words * offices self.now) working.old working.new }
+        ensures stepped { (m : Map) → OnChart self.now.chart m → (st : State) → Shown (places self.now) (offices self.now) working.old st.slots → Stepped m (asked self.now) st working.new result }
     {
         let n = self.chart.ground.counts.offices;
         let lead = take_leader(working, n);
-        let i = lead.number;
-        let trail = lead.trail;
         if lead.clear {
-            return Ok(Some((i, trail)));
+            return Ok(Some((lead.number, lead.trail)));
         }
-        let next = self.next_trail(i, trail)?;
-        put_back(working, n, i, next);
+        let next = self.next_trail(lead.number, lead.trail)?;
+        put_back(working, n, lead.number, next);
         Ok(None)
     }
 
     // Lists office i with the trail t, as line r of the answer.
     fn list_office(&self, i: usize, t: Trail, r: usize, answer: &mut [u64])
-        requires { (i < self.now.chart.ground.counts.offices) × (line_words * r + line_words ≤ length answer.old) }
-        ensures { (m : Map) (x : QuestOf) → SameGround m (map_of self.now.chart.ground.bytes.now) → x.stand i ≡ (offices_in self.now.list.now).stand i → Wrote r (line_of m x i (trail_of t)) answer.old answer.new }
+        requires { (i < offices self.now) × (line_words * r + line_words ≤ length answer.old) }
+        ensures { (m : Map) → SameGround m (ground self.now) → Wrote r (line_of m (asked self.now) i (trail_of t)) answer.old answer.new }
     {
         let place = self.stand(i);
         let gazetteer = gazetteer_of(self.chart.ground.bytes, place);
@@ -134,10 +130,10 @@ impl<'a> Errand<'a> {
         working: &mut [u64],
     ) -> Result<u64, Refusal>
         requires charted { SomeMap self.now.chart }
-        requires begun { Begun self.now.chart.ground.counts.places self.now.chart.ground.counts.offices working.old }
-        requires k_le_offices { (k ≤ self.now.chart.ground.counts.offices) × (line_words * k ≤ length answer.old) }
-        ensures beyond { Beyond (slot_words * self.now.chart.ground.counts.offices) working.old working.new }
-        ensures came { (m : Map) → OnChart self.now.chart m → (ss : List Slot) → Shown self.now.chart.ground.counts.places self.now.chart.ground.counts.offices working.old ss → Fresh self.now.chart.ground.counts.offices ss → Came k (run m (quest_on self.now.list.now self.now.quest) (enough m (quest_on self.now.list.now self.now.quest) k) k (begin ss)) answer.old answer.new result }
+        requires begun { Begun (places self.now) (offices self.now) working.old }
+        requires k_le_offices { (k ≤ offices self.now) × (line_words * k ≤ length answer.old) }
+        ensures beyond { Beyond (slot_words * offices self.now) working.old working.new }
+        ensures came { (m : Map) → OnChart self.now.chart m → (ss : List Slot) → Shown (places self.now) (offices self.now) working.old ss → Fresh (offices self.now) ss → Came k (run m (asked self.now) (enough m (asked self.now) k) k (begin ss)) answer.old answer.new result }
     {
         let mut listed = 0;
         let mut total = 0;
@@ -158,9 +154,9 @@ impl<'a> Errand<'a> {
     // The listing of k offices, on any map that has the chart, with the total of refinements.
     pub fn walk(&self, k: usize, answer: &mut [u64], working: &mut [u64]) -> Result<u64, Refusal>
         requires charted { SomeMap self.now.chart }
-        requires one_le_k { (1 ≤ k) × (k ≤ self.now.chart.ground.counts.offices) × (line_words * k ≤ length answer.old) × (slot_words * self.now.chart.ground.counts.offices ≤ length working.old) }
-        ensures beyond { Beyond (slot_words * self.now.chart.ground.counts.offices) working.old working.new }
-        ensures came { (m : Map) → OnChart self.now.chart m → Came k (listing m (quest_on self.now.list.now self.now.quest) k) answer.old answer.new result }
+        requires one_le_k { (1 ≤ k) × (k ≤ offices self.now) × (line_words * k ≤ length answer.old) × (slot_words * offices self.now ≤ length working.old) }
+        ensures beyond { Beyond (slot_words * offices self.now) working.old working.new }
+        ensures came { (m : Map) → OnChart self.now.chart m → Came k (listing m (asked self.now) k) answer.old answer.new result }
     {
         self.set_out_all(working)?;
         self.list_nearest(k, answer, working)

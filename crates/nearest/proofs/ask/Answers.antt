@@ -52,4 +52,4 @@ returns-in-Err c =
     let (made, A) = c.in-Err.ensures.came in
     let B = c.walk_mapped-walked.ensures.beyond in
     ask-refused c.args.sheet.now _ _ _ _ _ ok _ _ B (filled _ _ _ (omega (arith, ask-works c.args.sheet.now _ _ _ _ _ ok, B.long)) (c.fill.ensures.after (λ y e. e))) _ _ _ made A
-        (filled _ _ _ (omega (arith, (ask-allowed c.args.sheet.now _ _ _ _ _ ok).answers, A.long)) (c.fill-in-Err.ensures.after (λ y e. e)))
+    (filled _ _ _ (omega (arith, (ask-allowed c.args.sheet.now _ _ _ _ _ ok).answers, A.long)) (c.fill-in-Err.ensures.after (λ y e. e)))

@@ -5,17 +5,18 @@ use Rattle.paper.specs.Bounds.{Sane}
 use Rattle.sheet.proofs.Grounds.{roll_count}
 use Rattle.quadtree.specs.Walks.{trail_of}
 use Rattle.nearest.specs.Going.{Led}
+use Rattle.nearest.specs.Errands.{offices, places}
 use Rattle.nearest.proofs.Quests.{quest_to}
 use Rattle.nearest.proofs.Advance.{advance_listed, advance-walked, advance-refused, one_out, counted, refined_sane}
 use Rattle.nearest.proofs.errand.Errand.advance.Goals.{After-take_leader-lead, In_ok-next}
 use Rattle.nearest.proofs.errand.Errand.advance.Goals as goal
 
 -- the leader of the slots by which somebody waits
-waiting : (c : After-take_leader-lead) → Led c.args.self.now.chart.ground.counts.places c.args.self.now.chart.ground.counts.offices c.requires.waiting.slots c.take_leader-lead.new.working c.take_leader-lead.result
+waiting : (c : After-take_leader-lead) → Led (places c.args.self.now) (offices c.args.self.now) c.requires.waiting.slots c.take_leader-lead.new.working c.take_leader-lead.result
 waiting c = c.take_leader-lead.ensures.by_index _ _ c.requires.waiting.shown
 
 -- the trail that it gets is sane
-sane : (c : In_ok-next) → Sane c.args.self.now.chart.ground.counts.places (trail_of c.in_ok-next.next)
+sane : (c : In_ok-next) → Sane (places c.args.self.now) (trail_of c.in_ok-next.next)
 sane c =
     let e = c.args.self.now in
     let L = c.take_leader-lead.ensures.by_index _ _ c.requires.waiting.shown in

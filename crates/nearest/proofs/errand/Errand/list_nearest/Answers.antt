@@ -11,9 +11,9 @@ use Rattle.sheet.specs.Charts.{OnChart}
 use Rattle.sheet.proofs.Grounds.{roll_count}
 use Rattle.quadtree.proofs.Words.{standing}
 use Rattle.quadtree.specs.Walks.{trail_of}
-use Rattle.nearest.specs.Question.{quest_on}
 use Rattle.nearest.specs.Working.{Shown}
 use Rattle.nearest.specs.Going.{Fresh, Waiting, ListedNow}
+use Rattle.nearest.specs.Errands.{offices, places, asked}
 use Rattle.nearest.proofs.Advance.{shown_as, counted}
 use Rattle.nearest.proofs.Take.{beyond_then, beyond_same}
 use Rattle.nearest.proofs.Progress.{progress_begin, progress_long, progress-shown, progress-waits, progress-most, progress-small, progress-listed, progress-walked, progress-refused, progress_done}
@@ -23,9 +23,9 @@ use Rattle.nearest.proofs.errand.Errand.list_nearest.Goals as goal
 -- one such listing: what the code needs to go on
 record Under (c : At-loop-listed) : Type 0 where
   long : length c.loop-listed.answer ≡ length c.args.answer.now
-  most : c.loop-listed.total ≤ c.args.self.now.chart.ground.counts.offices * c.args.self.now.chart.ground.counts.places
+  most : c.loop-listed.total ≤ offices c.args.self.now * places c.args.self.now
   small : c.loop-listed.total ≤ most_offices * most_places
-  waits : c.loop-listed.listed < c.args.k → Waiting c.args.self.now.chart.ground.counts.places c.args.self.now.chart.ground.counts.offices c.loop-listed.working
+  waits : c.loop-listed.listed < c.args.k → Waiting (places c.args.self.now) (offices c.args.self.now) c.loop-listed.working
 
 under : (c : At-loop-listed) → Under c
 under c =
@@ -44,8 +44,8 @@ under c =
 
 -- who is listed, on any map that has the chart
 who : (c : In-Some) (m : Map) → OnChart c.args.self.now.chart m → (st : State)
-    → Shown c.args.self.now.chart.ground.counts.places c.args.self.now.chart.ground.counts.offices c.loop-listed.working st.slots
-    → ListedNow m (quest_on c.args.self.now.list.now c.args.self.now.quest) st c.advance.new.working c.in-Some.number (trail_of c.in-Some.trail)
+    → Shown (places c.args.self.now) (offices c.args.self.now) c.loop-listed.working st.slots
+    → ListedNow m (asked c.args.self.now) st c.advance.new.working c.in-Some.number (trail_of c.in-Some.trail)
 who c m C st S = rw c.in-Some.is at (c.in_ok-number.ensures.stepped m C st S)
 
 pub loop-listed-init : goal.loop-listed-init
@@ -77,13 +77,12 @@ pub loop-listed-smaller-in-Some : goal.loop-listed-smaller-in-Some
 loop-listed-smaller-in-Some c = omega (arith, c.loop-listed-test.true, (under (goal.at.loop-listed-smaller-in-Some c).At-loop-listed).most)
 
 pub loop-listed-preserved-in-Some : goal.loop-listed-preserved-in-Some
-loop-listed-preserved-in-Some c = let e = c.args.self.now in
-    (
-      beyond_then c.loop-listed.invariant.0 c.advance.ensures.beyond,
-      λ m C ss S F. let Q = c.loop-listed.invariant.1 m C ss S F in
-          let S' = progress-shown Q _ _ (counted e.chart.ground.keeps C) (roll_count e.roll) in
-          progress-listed Q c.loop-listed-test.true (omega (arith, roll_count e.roll, c.requires.k_le_offices.0)) _ _ _ _ (who (goal.at.loop-listed-preserved-in-Some c).In-Some m C _ S') (c.list_office.ensures m (quest_on e.list.now e.quest) C.ground refl),
-    )
+loop-listed-preserved-in-Some c = let e = c.args.self.now in (
+  beyond_then c.loop-listed.invariant.0 c.advance.ensures.beyond,
+  λ m C ss S F. let Q = c.loop-listed.invariant.1 m C ss S F in
+      let S' = progress-shown Q _ _ (counted e.chart.ground.keeps C) (roll_count e.roll) in
+      progress-listed Q c.loop-listed-test.true (omega (arith, roll_count e.roll, c.requires.k_le_offices.0)) _ _ _ _ (who (goal.at.loop-listed-preserved-in-Some c).In-Some m C _ S') (c.list_office.ensures m C.ground),
+)
 
 pub overflow_add-total : goal.overflow_add-total
 overflow_add-total c = omega (arith, (under (goal.at.overflow_add-total c).At-loop-listed).small)
@@ -92,13 +91,12 @@ pub loop-listed-smaller : goal.loop-listed-smaller
 loop-listed-smaller c = omega (arith, c.loop-listed-test.true, (under (goal.at.loop-listed-smaller c).At-loop-listed).most)
 
 pub loop-listed-preserved : goal.loop-listed-preserved
-loop-listed-preserved c = let e = c.args.self.now in
-    (
-      beyond_then c.loop-listed.invariant.0 c.advance.ensures.beyond,
-      λ m C ss S F. let Q = c.loop-listed.invariant.1 m C ss S F in
-          let S' = progress-shown Q _ _ (counted e.chart.ground.keeps C) (roll_count e.roll) in
-          progress-walked Q c.loop-listed-test.true (omega (arith, roll_count e.roll, c.requires.k_le_offices.0)) _ (rw c.in-None.is at (c.in_ok-number.ensures.stepped m C Q.going.state S')),
-    )
+loop-listed-preserved c = let e = c.args.self.now in (
+  beyond_then c.loop-listed.invariant.0 c.advance.ensures.beyond,
+  λ m C ss S F. let Q = c.loop-listed.invariant.1 m C ss S F in
+      let S' = progress-shown Q _ _ (counted e.chart.ground.keeps C) (roll_count e.roll) in
+      progress-walked Q c.loop-listed-test.true (omega (arith, roll_count e.roll, c.requires.k_le_offices.0)) _ (rw c.in-None.is at (c.in_ok-number.ensures.stepped m C Q.going.state S')),
+)
 
 pub returns-clause-came : goal.returns-clause-came
 returns-clause-came c m C ss S F = progress_done (c.loop-listed.invariant.1 m C ss S F) c.loop-listed-test.false c.requires.k_le_offices.1

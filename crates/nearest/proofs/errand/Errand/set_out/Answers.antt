@@ -6,7 +6,7 @@ use Rattle.paper.specs.Sheet.{map_of}
 use Rattle.paper.proofs.Bounds.{start_sane}
 use Rattle.sheet.proofs.Grounds.{ground_rules, roll_count}
 use Rattle.quadtree.proofs.Words.{standing}
-use Rattle.nearest.specs.Question.{quest_on}
+use Rattle.nearest.specs.Errands.{ground, asked}
 use Rattle.nearest.proofs.Quests.{quest_from, quest_to}
 use Rattle.nearest.proofs.Begun.{started_now}
 use Rattle.nearest.proofs.errand.Errand.set_out.Goals.{Start}
@@ -14,10 +14,10 @@ use Rattle.nearest.proofs.errand.Errand.set_out.Goals as goal
 
 -- the road runs between places
 module _ (c : Start) where
-  from : (quest_on c.args.self.now.list.now c.args.self.now.quest).from c.args.i < (map_of c.args.self.now.chart.ground.bytes.now).places
+  from : (asked c.args.self.now).from c.args.i < (ground c.args.self.now).places
   from = let e = c.args.self.now in omega (arith, (standing e.chart.ground.keeps).places, quest_from e.roll e.quest e.placed _ c.requires.0)
 
-  to : (quest_on c.args.self.now.list.now c.args.self.now.quest).to c.args.i < (map_of c.args.self.now.chart.ground.bytes.now).places
+  to : (asked c.args.self.now).to c.args.i < (ground c.args.self.now).places
   to = let e = c.args.self.now in omega (arith, (standing e.chart.ground.keeps).places, quest_to e.roll e.quest e.placed _ c.requires.0)
 
 pub key-requires : goal.key-requires

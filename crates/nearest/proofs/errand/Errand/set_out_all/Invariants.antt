@@ -3,12 +3,12 @@ use Prim.Native.Nat.{◌-◌, ◌*◌, ◌≤◌}
 use Rattle.paper.specs.Sizes.{slot_words}
 use Rattle.paper.specs.Sheet.{map_of}
 use Rattle.nearest.specs.Working.{Beyond}
-use Rattle.nearest.specs.Question.{quest_on}
+use Rattle.nearest.specs.Errands.{offices, ground, asked}
 use Rattle.nearest.proofs.Begun.{Prefix}
 use Rattle.nearest.proofs.errand.Errand.set_out_all.Given as goal
 
 abbrev pub invariant-loop-i : goal.invariant-loop-i
-invariant-loop-i l = (l.i ≤ l.n) × Beyond (slot_words * l.self.chart.ground.counts.offices) l.initial.working l.working × Prefix (map_of l.self.chart.ground.bytes.now) (quest_on l.self.list.now l.self.quest) l.i l.working
+invariant-loop-i l = (l.i ≤ l.n) × Beyond (slot_words * offices l.self) l.initial.working l.working × Prefix (ground l.self) (asked l.self) l.i l.working
 
 abbrev pub decreases-loop-i : goal.decreases-loop-i
 decreases-loop-i l = l.n - l.i

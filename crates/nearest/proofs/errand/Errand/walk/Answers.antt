@@ -11,8 +11,8 @@ use Rattle.paper.proofs.Ground.{starts-same}
 use Rattle.sheet.specs.Charts.{OnChart}
 use Rattle.sheet.proofs.Grounds.{roll_count}
 use Rattle.quadtree.proofs.Words.{standing}
-use Rattle.nearest.specs.Question.{quest_on}
 use Rattle.nearest.specs.Going.{Fresh, Begun, StartedAll}
+use Rattle.nearest.specs.Errands.{offices, places, ground, asked}
 use Rattle.nearest.proofs.Quests.{quest_from, quest_to}
 use Rattle.nearest.proofs.Advance.{shown_as, counted}
 use Rattle.nearest.proofs.Take.{beyond_same}
@@ -22,10 +22,10 @@ use Rattle.nearest.proofs.errand.Errand.walk.Goals as goal
 
 module _ (c : After-set_out_all) where
   abbrev x : Quest
-  x = quest_on c.args.self.now.list.now c.args.self.now.quest
+  x = asked c.args.self.now
 
   -- what the first intervals come to is the same on any map that has the ground
-  same : (m : Map) → OnChart c.args.self.now.chart m → starts m x x.count ≡ starts (map_of c.args.self.now.chart.ground.bytes.now) x x.count
+  same : (m : Map) → OnChart c.args.self.now.chart m → starts m x x.count ≡ starts (ground c.args.self.now) x x.count
   same m C =
       let e = c.args.self.now in
       let p = counted e.chart.ground.keeps C in
@@ -33,8 +33,8 @@ module _ (c : After-set_out_all) where
       starts-same C.ground x x.count (λ i q. omega (arith, p, quest_from e.roll e.quest e.placed i (omega (arith, n))))
       (λ i q. omega (arith, p, quest_to e.roll e.quest e.placed i (omega (arith, n))))
 
-  begun : StartedAll (map_of c.args.self.now.chart.ground.bytes.now) x c.set_out_all.new.working
-      → Begun c.args.self.now.chart.ground.counts.places c.args.self.now.chart.ground.counts.offices c.set_out_all.new.working
+  begun : StartedAll (ground c.args.self.now) x c.set_out_all.new.working
+      → Begun (places c.args.self.now) (offices c.args.self.now) c.set_out_all.new.working
   begun A =
       let e = c.args.self.now in
       let n = sym (roll_count e.roll) in
