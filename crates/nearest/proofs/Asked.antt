@@ -1,6 +1,6 @@
 -- The question's contract from its first clause.
 use Prim.Native.Nat.{ℕ}
-use mathlib.Core.Path.{◌≡◌, sym, ap, subst, ◌∙◌}
+use mathlib.Core.Path.{◌≡◌, sym, subst, ◌∙◌}
 use mathlib.Core.List.{List}
 use lib.ListN.{drop}
 use Rattle.paper.specs.declared.Counts.{Counts}

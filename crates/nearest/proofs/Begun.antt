@@ -17,7 +17,7 @@ use Rattle.paper.specs.Bounds.{Sane}
 use Rattle.paper.proofs.Count.{below_suc, below_all}
 use Rattle.paper.proofs.Test.{true_false}
 use Rattle.paper.proofs.LaidOut.{Grounded}
-use Rattle.nearest.specs.Working.{tree_at, key, Side, Stored, Held, Shown, Beyond}
+use Rattle.nearest.specs.Working.{tree_at, key, Side, Stored, Held, Shown}
 use Rattle.paper.proofs.Holds.{given}
 use Rattle.paper.proofs.Walk.{Walk, walk_start}
 use Rattle.paper.proofs.Bounds.{start_sane}

@@ -1,20 +1,18 @@
 -- The leader taken out of the tree, and put back.
-use Prim.Native.Nat.{ℕ, ◌+◌, ◌*◌, ◌/◌, ◌%◌, ◌≤◌, ◌<◌}
+use Prim.Native.Nat.{ℕ, ◌+◌, ◌/◌, ◌%◌, ◌<◌}
 use native.Mathlib.Omega.{arith}
 use mathlib.Core.Path.{◌≡◌, refl, sym, ap, subst, ◌∙◌}
-use mathlib.Core.Bool.{true}
 use mathlib.Core.Option.{some}
 use mathlib.Core.List.{List}
 use lib.Dec.{ltb}
-use lib.ListN.{length, set, length-set}
-use lib.Seq.{get_or-set_other}
+use lib.ListN.{set}
 use Rattle.mintree.specs.Mintree.{Played, Least, Same}
-use Rattle.paper.specs.Sizes.{most_offices, end_below}
+use Rattle.paper.specs.Sizes.{most_offices}
 use Rattle.paper.specs.Trail.{Trail}
 use Rattle.paper.specs.Listing.{Slot, at, low_of, retired}
 use Rattle.paper.specs.Bounds.{Sane}
 use Rattle.nearest.specs.declared.tree.Lead.{Lead}
-use Rattle.nearest.specs.Working.{side_words, tree_at, key, gone, Side, Shown, Beyond}
+use Rattle.nearest.specs.Working.{tree_at, key, gone, Side, Shown, Beyond}
 use Rattle.nearest.specs.Going.{Waiting, Led}
 use Rattle.quadtree.specs.Walks.{trail_of}
 use Rattle.nearest.proofs.Lead.{leads_one, leads, lead-waits, lead-number, lead_low, clear_by}

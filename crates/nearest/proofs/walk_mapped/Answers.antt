@@ -1,5 +1,4 @@
 -- `nearest::walk_mapped` meets its contract: the map of the bytes has their ground and the book.
-use mathlib.Core.Path.{◌≡◌}
 use Rattle.paper.specs.Sheet.{map_of}
 use Rattle.sheet.specs.Ground.{Charted}
 use Rattle.sheet.proofs.Room.{room}

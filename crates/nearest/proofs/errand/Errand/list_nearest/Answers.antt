@@ -1,5 +1,5 @@
 -- `Errand::list_nearest` meets its contract. The invariant: on any map that has the chart, the listing is under way.
-use mathlib.Core.Path.{◌≡◌, refl, sym, subst}
+use mathlib.Core.Path.{◌≡◌, subst}
 use Prim.Native.Nat.{ℕ, ◌*◌, ◌≤◌, ◌<◌}
 use native.Mathlib.Omega.{arith}
 use lib.ListN.{length}

@@ -1,8 +1,7 @@
 -- `Errand::set_out` meets its contract.
-use mathlib.Core.Path.{◌≡◌, refl, sym, ◌∙◌}
+use mathlib.Core.Path.{refl, sym}
 use Prim.Native.Nat.{◌<◌}
 use native.Mathlib.Omega.{arith}
-use Rattle.paper.specs.Sheet.{map_of}
 use Rattle.paper.proofs.Bounds.{start_sane}
 use Rattle.sheet.proofs.Grounds.{ground_rules, roll_count}
 use Rattle.quadtree.proofs.Words.{standing}

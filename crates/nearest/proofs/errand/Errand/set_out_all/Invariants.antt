@@ -1,7 +1,6 @@
 -- `Errand::set_out_all` meets its contract.
 use Prim.Native.Nat.{◌-◌, ◌*◌, ◌≤◌}
 use Rattle.paper.specs.Sizes.{slot_words}
-use Rattle.paper.specs.Sheet.{map_of}
 use Rattle.nearest.specs.Working.{Beyond}
 use Rattle.nearest.specs.Errands.{offices, ground, asked}
 use Rattle.nearest.proofs.Begun.{Prefix}

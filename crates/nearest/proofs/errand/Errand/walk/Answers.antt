@@ -4,7 +4,6 @@ use Prim.Native.Nat.{ℕ}
 use native.Mathlib.Omega.{arith}
 use Rattle.std.proofs.lemmas.Result.{err_from_is_err_and}
 use Rattle.paper.specs.Map.{Map}
-use Rattle.paper.specs.Sheet.{map_of}
 use Rattle.paper.specs.Quest.{Quest}
 use Rattle.paper.specs.Listing.{starts}
 use Rattle.paper.proofs.Ground.{starts-same}
