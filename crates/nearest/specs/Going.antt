@@ -12,9 +12,9 @@ use Rattle.paper.specs.Trail.{Trail, start}
 use Rattle.paper.specs.Listing.{Slot, Line, State, at, leader, clear, retired, refined, listed, walked_on, step, starts}
 use Rattle.paper.specs.Reply.{line_out, lines_out}
 use Rattle.paper.specs.Bounds.{Sane}
-use Rattle.nearest.specs.Working.{tree_at, key, Stored, Shown, Beyond}
 use Rattle.sheet.specs.Charts.{OnChart}
 use Rattle.sheet.specs.declared.ground.Chart.{Chart}
+use Rattle.nearest.specs.Working.{tree_at, key, Stored, Shown, Beyond}
 use Rattle.quadtree.specs.Walks.{trail_of}
 use Rattle.nearest.specs.declared.tree.Lead.{Lead}
 
@@ -106,7 +106,7 @@ pub record WalkedNow (m : Map) (x : Quest) (st : State) (w : List ℕ) : Type 0 
   pub stepped : step m x st ≡ served (walked_on st number trail)
   pub shown : Shown m.places x.count w (refined st.slots number trail)
 
--- the step from st, where the working slice at exit is w: some office is listed with its trail, or none
+-- the step from st, where the working slice at exit is w: some office is listed, with its trail, or none is and one is refined
 abbrev pub Moved : Map → Quest → State → List ℕ → Option (ℕ × code.Trail) → Type 0
 Moved m x st w (Some l) = ListedNow m x st w l.0 (trail_of l.1)
 Moved m x st w None = WalkedNow m x st w
@@ -118,4 +118,4 @@ Stepped m x st w (Err r) = step m x st ≡ refused (number_of r)
 -- the walk whose outcome by the definitions is r, for k offices; the answer slice at entry and at exit
 abbrev pub Came : ℕ → Served State → List ℕ → List ℕ → Result ℕ Refusal → Type 0
 Came k r answer answer' (Ok total) = (st : State) × (r ≡ served st) × (st.total ≡ total) × (answer' ≡ lines_out st.lines ++ drop (line_words * k) answer)
-Came k r answer answer' (Err n) = (r ≡ refused (number_of n)) × Beyond (line_words * k) answer answer'
+Came k r answer answer' (Err e) = (r ≡ refused (number_of e)) × Beyond (line_words * k) answer answer'

@@ -1,8 +1,7 @@
 -- `Errand::list_nearest` meets its contract. The invariant: on any map that has the chart, the listing is under way.
-use mathlib.Core.Path.{◌≡◌, subst}
+use mathlib.Core.Path.{subst}
 use Prim.Native.Nat.{ℕ, ◌*◌, ◌≤◌, ◌<◌}
 use native.Mathlib.Omega.{arith}
-use lib.ListN.{length}
 use Rattle.std.proofs.lemmas.Result.{err_from_is_err_and}
 use Rattle.paper.specs.Sizes.{most_offices, most_places}
 use Rattle.paper.specs.Map.{Map}
@@ -22,7 +21,6 @@ use Rattle.nearest.proofs.errand.Errand.list_nearest.Goals as goal
 
 -- one such listing: what the code needs to go on
 record Under (c : At-loop-listed) : Type 0 where
-  long : length c.loop-listed.answer ≡ length c.args.answer.now
   most : c.loop-listed.total ≤ offices c.args.self.now * places c.args.self.now
   small : c.loop-listed.total ≤ most_offices * most_places
   waits : c.loop-listed.listed < c.args.k → Waiting (places c.args.self.now) (offices c.args.self.now) c.loop-listed.working
@@ -36,7 +34,6 @@ under c =
     let p = counted e.chart.ground.keeps C in
     let n = roll_count e.roll in
     record {
-      long = progress_long P;
       most = progress-most P _ _ p n;
       small = progress-small P _ _ p n e.roll.few (standing e.chart.ground.keeps).within.places;
       waits = λ h. progress-waits P _ _ p n h c.requires.k_le_offices.0;
