@@ -14,8 +14,8 @@ abbrev pub places : Errand → ℕ
 places e = e.chart.ground.counts.places
 
 -- the map of its ground, and its quest
-abbrev pub ground : Errand → Map
-ground e = map_of e.chart.ground.bytes.now
+abbrev pub ground_of : Errand → Map
+ground_of e = map_of e.chart.ground.bytes.now
 
 abbrev pub asked : Errand → Quest
 asked e = quest_on e.list.now e.quest

@@ -35,7 +35,7 @@ impl<'a> Errand<'a> {
     ghost use Rattle.sheet.specs.Charts.{OnChart};
     ghost use Rattle.quadtree.specs.Walks.{trail_of};
     ghost use Rattle.nearest.specs.Working.{Shown, Beyond};
-    ghost use Rattle.nearest.specs.Errands.{offices, places, ground, asked};
+    ghost use Rattle.nearest.specs.Errands.{offices, places, ground_of, asked};
     ghost use Rattle.nearest.specs.Going.{Wrote, SomeMap, Fresh, Waiting, Begun, OneStarted, AllStarted, Stepped, Came};
 
     // The place at which office i of the list stands.
@@ -50,7 +50,7 @@ impl<'a> Errand<'a> {
     // The trail of office i before any refinement.
     fn first_trail(&self, i: usize) -> Result<Trail, Refusal>
         requires { i < offices self.now }
-        ensures { served_as trail_of result ≡ start_of (ground self.now) ((asked self.now).from i) ((asked self.now).to i) }
+        ensures { served_as trail_of result ≡ start_of (ground_of self.now) ((asked self.now).from i) ((asked self.now).to i) }
     {
         let place = self.stand(i);
         let from = by_direction(self.quest.direction, self.quest.place, place);
@@ -72,7 +72,7 @@ impl<'a> Errand<'a> {
     fn set_out(&self, i: usize, working: &mut [u64]) -> Result<(), Refusal>
         requires { (i < offices self.now) × (slot_words * offices self.now ≤ length working.old) }
         ensures beyond { Beyond (slot_words * offices self.now) working.old working.new }
-        ensures one_started { OneStarted (ground self.now) (asked self.now) i working.old working.new result }
+        ensures one_started { OneStarted (ground_of self.now) (asked self.now) i working.old working.new result }
     {
         let n = self.chart.ground.counts.offices;
         let first = self.first_trail(i)?;
@@ -85,7 +85,7 @@ impl<'a> Errand<'a> {
     fn set_out_all(&self, working: &mut [u64]) -> Result<(), Refusal>
         requires { (1 ≤ offices self.now) × (slot_words * offices self.now ≤ length working.old) }
         ensures beyond { Beyond (slot_words * offices self.now) working.old working.new }
-        ensures all_started { AllStarted (ground self.now) (asked self.now) working.new result }
+        ensures all_started { AllStarted (ground_of self.now) (asked self.now) working.new result }
     {
         let n = self.chart.ground.counts.offices;
         for i in 0..n {
@@ -115,7 +115,7 @@ impl<'a> Errand<'a> {
     // Lists office i with the trail t, as line r of the answer.
     fn list_office(&self, i: usize, t: Trail, r: usize, answer: &mut [u64])
         requires { (i < offices self.now) × (line_words * r + line_words ≤ length answer.old) }
-        ensures { (m : Map) → SameGround m (ground self.now) → Wrote r (line_of m (asked self.now) i (trail_of t)) answer.old answer.new }
+        ensures { (m : Map) → SameGround m (ground_of self.now) → Wrote r (line_of m (asked self.now) i (trail_of t)) answer.old answer.new }
     {
         let place = self.stand(i);
         let gazetteer = gazetteer_of(self.chart.ground.bytes, place);

@@ -5,7 +5,7 @@ use native.Mathlib.Omega.{arith}
 use Rattle.paper.proofs.Bounds.{start_sane}
 use Rattle.sheet.proofs.Grounds.{ground_rules, roll_count}
 use Rattle.quadtree.proofs.Words.{standing}
-use Rattle.nearest.specs.Errands.{ground, asked}
+use Rattle.nearest.specs.Errands.{ground_of, asked}
 use Rattle.nearest.proofs.Quests.{quest_from, quest_to}
 use Rattle.nearest.proofs.Begun.{started_now}
 use Rattle.nearest.proofs.errand.Errand.set_out.Goals.{Start}
@@ -13,10 +13,10 @@ use Rattle.nearest.proofs.errand.Errand.set_out.Goals as goal
 
 -- the road runs between places
 module _ (c : Start) where
-  from : (asked c.args.self.now).from c.args.i < (ground c.args.self.now).places
+  from : (asked c.args.self.now).from c.args.i < (ground_of c.args.self.now).places
   from = let e = c.args.self.now in omega (arith, (standing e.chart.ground.keeps).places, quest_from e.roll e.quest e.placed _ c.requires.0)
 
-  to : (asked c.args.self.now).to c.args.i < (ground c.args.self.now).places
+  to : (asked c.args.self.now).to c.args.i < (ground_of c.args.self.now).places
   to = let e = c.args.self.now in omega (arith, (standing e.chart.ground.keeps).places, quest_to e.roll e.quest e.placed _ c.requires.0)
 
 pub key-requires : goal.key-requires

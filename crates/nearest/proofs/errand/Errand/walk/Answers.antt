@@ -11,7 +11,7 @@ use Rattle.sheet.specs.Charts.{OnChart}
 use Rattle.sheet.proofs.Grounds.{roll_count}
 use Rattle.quadtree.proofs.Words.{standing}
 use Rattle.nearest.specs.Going.{Fresh, Begun, StartedAll}
-use Rattle.nearest.specs.Errands.{offices, places, ground, asked}
+use Rattle.nearest.specs.Errands.{offices, places, ground_of, asked}
 use Rattle.nearest.proofs.Quests.{quest_from, quest_to}
 use Rattle.nearest.proofs.Advance.{shown_as, counted}
 use Rattle.nearest.proofs.Take.{beyond_same}
@@ -24,7 +24,7 @@ module _ (c : After-set_out_all) where
   x = asked c.args.self.now
 
   -- what the first intervals come to is the same on any map that has the ground
-  same : (m : Map) → OnChart c.args.self.now.chart m → starts m x x.count ≡ starts (ground c.args.self.now) x x.count
+  same : (m : Map) → OnChart c.args.self.now.chart m → starts m x x.count ≡ starts (ground_of c.args.self.now) x x.count
   same m C =
       let e = c.args.self.now in
       let p = counted e.chart.ground.keeps C in
@@ -32,7 +32,7 @@ module _ (c : After-set_out_all) where
       starts-same C.ground x x.count (λ i q. omega (arith, p, quest_from e.roll e.quest e.placed i (omega (arith, n))))
       (λ i q. omega (arith, p, quest_to e.roll e.quest e.placed i (omega (arith, n))))
 
-  begun : StartedAll (ground c.args.self.now) x c.set_out_all.new.working
+  begun : StartedAll (ground_of c.args.self.now) x c.set_out_all.new.working
       → Begun (places c.args.self.now) (offices c.args.self.now) c.set_out_all.new.working
   begun A =
       let e = c.args.self.now in
