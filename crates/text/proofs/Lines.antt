@@ -6,6 +6,7 @@ use native.Mathlib.Numerals.{add-one}
 use native.Mathlib.Omega.{arith}
 use lib.ListN.{length, get_or, take, drop, set, length-append}
 use lib.Seq.{drop-cons, drop-drop}
+use Rattle.std.proofs.lemmas.List.{drop_all}
 use Rattle.paper.specs.Sizes.{line_words}
 use Rattle.paper.specs.Printed.{decimal, after, line_text, list_text, refusal_text}
 use Rattle.text.specs.Put.{Written}
@@ -22,22 +23,20 @@ part_step ws from to h k =
     more : to - from ≡ suc (to - (from + 1))
     more = omega arith
 
--- the text of those after the first of a line
-abbrev pub after_from : List ℕ → ℕ → ℕ → List ℕ
-after_from ws from to = after (take (to - from) (drop from ws))
-
 -- the lines of the offices from i to k
 abbrev pub lines_from : List ℕ → ℕ → ℕ → List ℕ
 lines_from ws i k = list_text (k - i) (drop (line_words * i) ws)
 
-after-step : (ws : List ℕ) (from to : ℕ) → from < to → to ≤ length ws
-    → after_from ws from to ≡ (32 ∷ decimal (get_or ws from 0)) ++ after_from ws (from + 1) to
+-- of the numbers after the first of a line, those from i on
+after-step : (ws : List ℕ) (i : ℕ) → i < length ws → after (drop i ws) ≡ (32 ∷ decimal (get_or ws i 0)) ++ after (drop (i + 1) ws)
 unfolding after
-after-step ws from to h k = ap after (part_step ws from to h k)
+after-step ws i h =
+    ap after (drop-cons ws i 0 h)
+    ∙ ap (λ n. (32 ∷ decimal (get_or ws i 0)) ++ after (drop n ws)) (sym (add-one i))
 
-after_end : (ws : List ℕ) (from to : ℕ) → to ≤ from → after_from ws from to ≡ 10 ∷ []
+after_end : (ws : List ℕ) (i : ℕ) → length ws ≤ i → after (drop i ws) ≡ 10 ∷ []
 unfolding after
-after_end ws from to h = let none : to - from ≡ 0 = omega arith in ap (λ n. after (take n (drop from ws))) none
+after_end ws i h = ap after (drop_all i ws h)
 
 list_step : (ws : List ℕ) (i k : ℕ) → i < k
     → lines_from ws i k ≡ line_text (take line_words (drop (line_words * i) ws)) ++ lines_from ws (i + 1) k
@@ -53,25 +52,19 @@ unfolding list_text
 list_end ws i k h = let none : k - i ≡ 0 = omega arith in ap (λ n. list_text n (drop (line_words * i) ws)) none
 
 module _ (ws : List ℕ) {at : ℕ} {text u : List ℕ} where
-  pub after_begun : (from count : ℕ) → text ≡ after (take count (drop from ws)) → at + length text ≤ length u
-      → Going at text (after_from ws from (from + count)) u u at
-  after_begun from count e h =
-      let same : count ≡ from + count - from = omega arith in
-      going_as (going_start at text u h) (e ∙ ap (λ n. after (take n (drop from ws))) same)
+  module _ {i next : ℕ} {v : List ℕ} (g : Going at text (after (drop i ws)) u v next) where
+    pub after-fits : at + length text ≤ length u → i < length ws → next + length (32 ∷ decimal (get_or ws i 0)) ≤ length v
+    after-fits room h = going_fits (32 ∷ decimal (get_or ws i 0)) (after (drop (i + 1) ws)) g (after-step ws i h) room
 
-  module _ {i to next : ℕ} {v : List ℕ} (g : Going at text (after_from ws i to) u v next) where
-    pub after-fits : at + length text ≤ length u → i < to → to ≤ length ws → next + length (32 ∷ decimal (get_or ws i 0)) ≤ length v
-    after-fits room h k = going_fits (32 ∷ decimal (get_or ws i 0)) (after_from ws (i + 1) to) g (after-step ws i to h k) room
+    pub after_more : {w : List ℕ} {past : ℕ} → i < length ws → Written next (32 ∷ decimal (get_or ws i 0)) v w past
+        → Going at text (after (drop (i + 1) ws)) u w past
+    after_more h p = going_step (going_as g (after-step ws i h)) p
 
-    pub after_more : {w : List ℕ} {past : ℕ} → i < to → to ≤ length ws → Written next (32 ∷ decimal (get_or ws i 0)) v w past
-        → Going at text (after_from ws (i + 1) to) u w past
-    after_more h k p = going_step (going_as g (after-step ws i to h k)) p
+    pub after-room : at + length text ≤ length u → length ws ≤ i → next < length v
+    after-room room h = omega (arith, going_room (going_as g (after_end ws i h)) room)
 
-    pub after-room : at + length text ≤ length u → to ≤ i → next < length v
-    after-room room h = omega (arith, going_room (going_as g (after_end ws i to h)) room)
-
-    pub after-done : at + length text ≤ length u → to ≤ i → Written at text u (set v next 10) (next + 1)
-    after-done room h = going_last (going_as g (after_end ws i to h)) (written_byte next 10 v (after-room room h))
+    pub after-done : at + length text ≤ length u → length ws ≤ i → Written at text u (set v next 10) (next + 1)
+    after-done room h = going_last (going_as g (after_end ws i h)) (written_byte next 10 v (after-room room h))
 
   pub list_begun : (k : ℕ) → text ≡ list_text k ws → at + length text ≤ length u → Going at text (lines_from ws 0 k) u u at
   list_begun k e h =
@@ -90,17 +83,15 @@ module _ (ws : List ℕ) {at : ℕ} {text u : List ℕ} where
     list_done h = going_end (going_as g (list_end ws i k h))
 
 pub line_parts : (ws : List ℕ) (from count : ℕ) → 1 ≤ count → from + count ≤ length ws
-    → line_text (take count (drop from ws)) ≡ decimal (get_or ws from 0) ++ after (take (count - 1) (drop (from + 1) ws))
+    → line_text (take count (drop from ws)) ≡ decimal (get_or ws from 0) ++ after (take (from + count - (from + 1)) (drop (from + 1) ws))
 unfolding line_text
 line_parts ws from count h k =
     let all : count ≡ from + count - from = omega arith in
-    let less : from + count - (from + 1) ≡ count - 1 = omega arith in
     ap (λ n. line_text (take n (drop from ws))) all
     ∙ ap line_text (part_step ws from (from + count) (omega arith) k)
-    ∙ ap (λ n. decimal (get_or ws from 0) ++ after (take n (drop (from + 1) ws))) less
 
 pub line-length : (ws : List ℕ) (from count : ℕ) → 1 ≤ count → from + count ≤ length ws
-    → length (line_text (take count (drop from ws))) ≡ length (decimal (get_or ws from 0)) + length (after (take (count - 1) (drop (from + 1) ws)))
+    → length (line_text (take count (drop from ws))) ≡ length (decimal (get_or ws from 0)) + length (after (take (from + count - (from + 1)) (drop (from + 1) ws)))
 line-length ws from count h k = ap length (line_parts ws from count h k) ∙ length-append (decimal (get_or ws from 0)) _
 
 -- `refused` and a space

@@ -1,5 +1,6 @@
 -- What it is to write a text into a slice of bytes.
-use Rattle.std.specs.Prelude.{ℕ, ◌+◌, ◌≤◌, ◌≡◌, List, ◌++◌, length, take, drop}
+use Rattle.std.specs.Prelude.{ℕ, ◌+◌, ◌≤◌, ◌≡◌, Result, Ok, Err, List, ◌++◌, length, take, drop}
+use Rattle.paper.specs.declared.Listed.{Listed}
 use Rattle.paper.specs.Reply.{Reply}
 
 -- the text stands at `at`, and every byte before and after it is as it was
@@ -15,3 +16,8 @@ pub record Written (at : ℕ) (text before after : List ℕ) (next : ℕ) : Type
 -- the reply that has these parts
 abbrev pub reply_of : ℕ → ℕ → ℕ → List ℕ → List ℕ → Reply
 reply_of number count refinements answer working = record { number = number; count = count; refinements = refinements; answer = answer; working = working }
+
+-- how many offices are listed
+abbrev pub count_of : Result Listed ℕ → ℕ
+count_of (Ok l) = l.count
+count_of (Err number) = 0

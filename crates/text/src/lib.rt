@@ -1,12 +1,13 @@
 // What the program prints, written into a lent slice of bytes: each function writes one text and returns the position after it.
 #![tactic(auto)]
 
-ghost use Rattle.std.specs.Prelude.{◌≡◌, List, ◌∷◌, ℕ, ◌+◌, ◌*◌, ◌≤◌, ◌<◌, length, take, drop};
+ghost use Rattle.std.specs.Prelude.{◌≡◌, List, ◌∷◌, ℕ, ◌+◌, ◌*◌, ◌≤◌, ◌<◌, length, take, drop, IfOk, IfErr};
 ghost use Rattle.paper.specs.Sizes.{line_words};
 ghost use Rattle.paper.specs.Printed.{decimal, after, line_text, refusal_text, list_text, reply_text};
-ghost use Rattle.text.specs.Put.{Put, Written, reply_of};
+ghost use Rattle.text.specs.Put.{Put, Written, count_of, reply_of};
 ghost use Rattle.text.specs.Room.{reply_room};
 
+use paper::Listed;
 use paper::sizes::LINE_WORDS;
 
 fn digit(n: u64) -> u8
@@ -34,10 +35,8 @@ fn put_digits(out: &mut [u8], at: usize, end: usize, n: u64)
     requires { (end ≡ at + length (decimal n)) × (end ≤ length out.old) }
     ensures { Put at (decimal n) out.old out.new }
 {
-    let mut p = end;
     let mut rest = n;
-    while at < p {
-        p -= 1;
+    for p in (at..end).rev() {
         out[p] = digit(rest % 10);
         rest /= 10;
     }
@@ -62,15 +61,13 @@ fn put_next(out: &mut [u8], at: usize, n: u64) -> usize
 }
 
 // The numbers after the first of a line, and the line's end.
-fn put_after(out: &mut [u8], at: usize, words: &[u64], from: usize, count: usize) -> usize
-    requires count_in_bounds { from + count ≤ length words.now }
-    requires words_in_bounds { at + length (after (take count (drop from words.now))) ≤ length out.old }
-    ensures { Written at (after (take count (drop from words.now))) out.old out.new result }
+fn put_after(out: &mut [u8], at: usize, words: &[u64]) -> usize
+    requires { at + length (after words.now) ≤ length out.old }
+    ensures { Written at (after words.now) out.old out.new result }
 {
-    let to = from + count;
     let mut next = at;
-    for i in from..to {
-        next = put_next(out, next, words[i]);
+    for &word in words {
+        next = put_next(out, next, word);
     }
     out[next] = b'\n';
     next + 1
@@ -83,7 +80,7 @@ pub fn put_numbers(out: &mut [u8], at: usize, words: &[u64], from: usize, count:
     ensures { Written at (line_text (take count (drop from words.now))) out.old out.new result }
 {
     let next = put_decimal(out, at, words[from]);
-    put_after(out, next, words, from + 1, count - 1)
+    put_after(out, next, &words[from + 1..from + count])
 }
 
 // The lines of the k listed offices.
@@ -103,10 +100,9 @@ fn put_bytes(out: &mut [u8], at: usize, text: &[u8]) -> usize
     requires { at + length text.now ≤ length out.old }
     ensures { Written at text.now out.old out.new result }
 {
-    for i in 0..text.len() {
-        out[at + i] = text[i];
-    }
-    at + text.len()
+    let end = at + text.len();
+    out[at..end].copy_from_slice(text);
+    end
 }
 
 pub fn put_refusal(out: &mut [u8], at: usize, number: u32) -> usize
@@ -114,21 +110,24 @@ pub fn put_refusal(out: &mut [u8], at: usize, number: u32) -> usize
     ensures { Written at (refusal_text number) out.old out.new result }
 {
     let next = put_bytes(out, at, b"refused ");
-    let end = put_decimal(out, next, number as u64);
+    let end = put_decimal(out, next, u64::from(number));
     out[end] = b'\n';
     end + 1
 }
 
 // A refusal; or the counts and the list. The text does not show the reply's working slice.
-pub fn put_reply(out: &mut [u8], number: u32, count: u32, refinements: u64, answer: &[u64]) -> usize
-    requires count_in_bounds { reply_room count ≤ length out.old }
-    requires count_in_bounds_2 { number ≡ 0 → line_words * count ≤ length answer.now }
-    ensures { (working : List ℕ) → Written 0 (reply_text (reply_of number count refinements answer.now working)) out.old out.new result }
+pub fn put_reply(out: &mut [u8], reply: Result<Listed, u32>, answer: &[u64]) -> usize
+    requires count_in_bounds { reply_room (count_of reply) ≤ length out.old }
+    requires count_in_bounds_2 { line_words * count_of reply ≤ length answer.now }
+    ensures listed { IfOk reply (λ l. (working : List ℕ) → Written 0 (reply_text (reply_of 0 l.count l.refinements answer.now working)) out.old out.new result) }
+    ensures refused { IfErr reply (λ number. Written 0 (refusal_text number) out.old out.new result) }
 {
-    if number != 0 {
-        return put_refusal(out, 0, number);
+    match reply {
+        Err(number) => put_refusal(out, 0, number),
+        Ok(listed) => {
+            let counts = [u64::from(listed.count), listed.refinements];
+            let next = put_numbers(out, 0, &counts, 0, 2);
+            put_list(out, next, answer, listed.count as usize)
+        }
     }
-    let counts = [count as u64, refinements];
-    let next = put_numbers(out, 0, &counts, 0, 2);
-    put_list(out, next, answer, count as usize)
 }

@@ -6,6 +6,3 @@ use Rattle.text.proofs.put_digits.Given as goal
 
 abbrev pub invariant-loop-p : goal.invariant-loop-p
 invariant-loop-p l = Filling l.initial.out l.out l.at l.p l.n l.rest × (length l.out ≡ length l.initial.out)
-
-abbrev pub decreases-loop-p : goal.decreases-loop-p
-decreases-loop-p l = l.p

@@ -8,7 +8,7 @@ pub put_decimal-next-requires : goal.put_decimal-next-requires
 put_decimal-next-requires c = omega (arith, line-length c.args.words.now c.args.from c.args.count c.requires.le_count.0 c.requires.le_count.1)
 
 pub put_after-requires : goal.put_after-requires
-put_after-requires c = record { count_in_bounds = omega arith; words_in_bounds = omega (arith, line-length c.args.words.now c.args.from c.args.count c.requires.le_count.0 c.requires.le_count.1, c.put_decimal-next.ensures.past, put_length c.put_decimal-next.ensures.put) }
+put_after-requires c = omega (arith, line-length c.args.words.now c.args.from c.args.count c.requires.le_count.0 c.requires.le_count.1, c.put_decimal-next.ensures.past, put_length c.put_decimal-next.ensures.put)
 
 pub returns : goal.returns
 returns c = rw (line_parts c.args.words.now c.args.from c.args.count c.requires.le_count.0 c.requires.le_count.1) (written_then c.put_decimal-next.ensures c.put_after.ensures)
