@@ -2,11 +2,11 @@
 use Prim.Native.Nat.{ℕ, ◌+◌, ◌≤◌, ◌<◌}
 use mathlib.Core.Path.{◌≡◌, refl, sym, ap, ◌∙◌}
 use mathlib.Core.List.{List, [], ◌∷◌, ◌++◌, append_assoc, append-nil}
-use native.Mathlib.Nat.{add-zero, add_assoc}
+use native.Mathlib.Nat.{add-zero}
 use native.Mathlib.Numerals.{add-one}
 use native.Mathlib.Omega.{arith}
-use lib.ListN.{length, get_or, take, drop, set, length-append, take-append-drop, length-drop}
-use lib.Seq.{length-take-le, drop-cons, drop-length, take_at, drop_at, take-append-le, take-take, drop-drop, set_split}
+use lib.ListN.{length, take, drop, set, length-append, take-append-drop, length-drop}
+use lib.Seq.{length-take-le, take_at, drop_at, take-append-le, take-take, drop-drop, set_split}
 use Rattle.text.specs.Put.{Put, Written}
 
 -- two outcomes of one writing are equal
@@ -162,18 +162,3 @@ going_end g = rw (g.all, append-nil) g.written
 
 pub going_last : {at i j : ℕ} {text a u v w : List ℕ} → Going at text a u v i → Written i a v w j → Written at text u w j
 going_last {a = a} g p = going_end (going_step (going_as g (sym (append-nil a))) p)
-
--- the same, byte by byte
-pub bytes-step : {u v : List ℕ} (at i : ℕ) (text : List ℕ) → Going at text (drop i text) u v (at + i) → at + length text ≤ length u → i < length text
-    → Going at text (drop (i + 1) text) u (set v (at + i) (get_or text i 0)) (at + (i + 1))
-bytes-step {u} {v} at i text g h k =
-    going_step (rw first at g) (rw add_assoc at byte)
-  where
-    byte : Written (at + i) (get_or text i 0 ∷ []) v (set v (at + i) (get_or text i 0)) (at + i + 1)
-    byte = written_byte (at + i) (get_or text i 0) v (omega (arith, put_length g.written.put))
-
-    first : drop i text ≡ get_or text i 0 ∷ drop (i + 1) text
-    first = drop-cons text i 0 k ∙ ap (λ n. get_or text i 0 ∷ drop n text) (sym (add-one i))
-
-pub bytes_end : {u v : List ℕ} (at i : ℕ) (text : List ℕ) → Going at text (drop i text) u v (at + i) → i ≡ length text → Written at text u v (at + length text)
-bytes_end {u} {v} at i text g e = going_end (rw (ap (λ n. drop n text) e ∙ drop-length text, e) at g)

@@ -1,4 +1,5 @@
 // What the program prints, written into a lent slice of bytes: each function writes one text and returns the position after it.
+// By hand: of the library's writers, `write!` promises its bytes to a `Vec` alone, which needs a heap, and of a slice it says nothing.
 #![tactic(auto)]
 
 ghost use Rattle.std.specs.Prelude.{◌≡◌, List, ◌∷◌, ℕ, ◌+◌, ◌*◌, ◌≤◌, ◌<◌, length, take, drop, IfOk, IfErr};
@@ -90,8 +91,8 @@ pub fn put_list(out: &mut [u8], at: usize, answer: &[u64], k: usize) -> usize
     ensures { Written at (list_text k answer.now) out.old out.new result }
 {
     let mut next = at;
-    for i in 0..k {
-        next = put_numbers(out, next, answer, LINE_WORDS * i, LINE_WORDS);
+    for line in answer[..LINE_WORDS * k].chunks_exact(LINE_WORDS) {
+        next = put_numbers(out, next, line, 0, LINE_WORDS);
     }
     next
 }

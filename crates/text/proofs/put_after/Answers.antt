@@ -1,5 +1,4 @@
 -- `text::put_after` meets its contract. The invariant: the numbers so far are written.
-use native.Mathlib.Omega.{arith}
 use Rattle.text.proofs.Put.{going_start}
 use Rattle.text.proofs.Lines.{after-fits, after_more, after-room, after-done}
 use Rattle.text.proofs.put_after.Goals as goal
@@ -15,9 +14,6 @@ loop-word-preserved c = after_more c.args.words.now c.loop-word.invariant c.loop
 
 pub bounds-out-next : goal.bounds-out-next
 bounds-out-next c = after-room c.args.words.now c.loop-word.invariant c.requires c.loop-word-test.false
-
-pub overflow_add-result : goal.overflow_add-result
-overflow_add-result c = omega (arith, after-room c.args.words.now c.loop-word.invariant c.requires c.loop-word-test.false)
 
 pub returns : goal.returns
 returns c = after-done c.args.words.now c.loop-word.invariant c.requires c.loop-word-test.false

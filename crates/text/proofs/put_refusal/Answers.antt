@@ -25,9 +25,6 @@ put_decimal-end-requires c = rw c.from.ensures (omega (arith, refusal_length c.a
 pub bounds-out-end : goal.bounds-out-end
 bounds-out-end c = room (goal.at.bounds-out-end c).After-put_decimal-end
 
-pub overflow_add-result : goal.overflow_add-result
-overflow_add-result c = omega (arith, room (goal.at.overflow_add-result c).After-put_decimal-end)
-
 pub returns : goal.returns
 returns c =
     let here = (goal.at.returns c).After-put_decimal-end in

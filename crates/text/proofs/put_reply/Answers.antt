@@ -1,9 +1,8 @@
 -- `text::put_reply` meets its contract.
-use Prim.Native.Nat.{◌*◌, ◌≤◌}
+use Prim.Native.Nat.{◌≤◌}
 use mathlib.Core.Path.{refl}
 use native.Mathlib.Omega.{arith}
 use lib.ListN.{length}
-use Rattle.paper.specs.Sizes.{line_words}
 use Rattle.text.specs.Room.{reply_room}
 use Rattle.text.proofs.Put.{put_length, written_then}
 use Rattle.text.proofs.Short.{counts_short, list_short, refusal_short}
@@ -36,3 +35,6 @@ pub returns-in-Ok-clause-listed : goal.returns-in-Ok-clause-listed
 returns-in-Ok-clause-listed c =
     rw c.in-Ok.is (λ working. rw (reply-listed 0 c.in-Ok.listed.count c.in-Ok.listed.refinements c.args.answer.now working refl)
     (written_then (rw c.from.ensures at c.put_numbers-next.ensures) c.put_list.ensures))
+
+pub returns-in-Err-clause-refused : goal.returns-in-Err-clause-refused
+returns-in-Err-clause-refused c = rw c.in-Err.is c.put_refusal.ensures
