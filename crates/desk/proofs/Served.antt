@@ -1,7 +1,10 @@
 -- What is written is what the paper's program prints.
 use Prim.Native.Nat.{ℕ, zero, suc, ◌≤◌}
+use Rattle.std.proofs.Common.{Result, Ok, Err, IfOk, IfErr}
+use Rattle.std.specs.Result.{IsErrAnd, MatchResult}
+use Rattle.std.proofs.lemmas.Result.{err_from_is_err_and}
 use native.Mathlib.Omega.{arith}
-use mathlib.Core.Path.{◌≡◌, refl, sym, ap, subst}
+use mathlib.Core.Path.{◌≡◌, refl, sym, ap, subst, ◌∙◌}
 use mathlib.Core.List.{List}
 use Rattle.paper.specs.Sizes.{program_offices}
 use Rattle.paper.specs.Served.{Served, refused, served}
@@ -12,10 +15,16 @@ use Rattle.paper.specs.Quest.{directed}
 use Rattle.paper.specs.Listing.{State, listing}
 use Rattle.paper.specs.Test.{or_else}
 use Rattle.paper.specs.Reply.{Reply, invalid, walk_out, reply_by, reply_on, reply}
-use Rattle.paper.specs.Printed.{refusal_text, reply_text, unfit, sheet_in, lent_answer, lent_working, program_reply, Printed, misfit, unproven, replied}
+use Rattle.paper.specs.Printed.{refusal_text, reply_text, unfit, sheet_in, lent_answer, lent_working, program_reply, Printed, misfit, unproven, replied as asked}
 use Rattle.paper.proofs.Test.{or_right}
 use Rattle.paper.proofs.Reply.{Allowed, valid}
-use Rattle.text.specs.Put.{Written}
+use Rattle.paper.specs.Refusal.{number_of, number}
+use Rattle.paper.specs.declared.Listed.{Listed}
+use Rattle.paper.specs.declared.refusal.Refusal.{Refusal}
+use Rattle.paper.specs.declared.refusal.Refusal.TheVariants.{NotWhole, BadCount, BadPlaces, BadStages, BadBlocks, BadOffices, BadQuestion, BadK, SliceShort, TableShort, CutOff, NoBlock, WrongColour, WrongRatio, UselessBlock, TooManyStages, NoBlockOnWay, EmptyInterval, TooLarge}
+use Rattle.nearest.specs.Question.{replied}
+use Rattle.text.specs.Put.{Written, count_of, reply_of}
+use Rattle.text.proofs.Reply.{reply_refused}
 use Rattle.text.proofs.Put.{written-first, written_rest, put_length}
 use Rattle.desk.specs.Serve.{Judged, Serves}
 use Rattle.desk.proofs.Unfit.{fit}
@@ -27,16 +36,52 @@ serves_by {input} {text} {before} {after} {r} W P = record {
   rest = written_rest W;
 }
 
-pub refused_early : (input : List ℕ) (n : ℕ) → n ≡ unfit input → (n ≡ 0 → ⊥) → Printed input (refusal_text n)
+-- no refusal has the number 0
+number_some : (r : Refusal) → number_of r ≡ 0 → ⊥
+number_some NotWhole e = omega arith
+number_some BadCount e = omega arith
+number_some BadPlaces e = omega arith
+number_some BadStages e = omega arith
+number_some BadBlocks e = omega arith
+number_some BadOffices e = omega arith
+number_some BadQuestion e = omega arith
+number_some BadK e = omega arith
+number_some SliceShort e = omega arith
+number_some TableShort e = omega arith
+number_some CutOff e = omega arith
+number_some NoBlock e = omega arith
+number_some WrongColour e = omega arith
+number_some WrongRatio e = omega arith
+number_some UselessBlock e = omega arith
+number_some TooManyStages e = omega arith
+number_some NoBlockOnWay e = omega arith
+number_some EmptyInterval e = omega arith
+number_some TooLarge e = omega arith
+
+refused_early : (input : List ℕ) (n : ℕ) → n ≡ unfit input → (n ≡ 0 → ⊥) → Printed input (refusal_text n)
 refused_early input zero e ne = absurd (ne refl)
 refused_early input (suc n) e ne = misfit (sym e)
 
-pub refused_untrue : (input : List ℕ) (n : ℕ) → unfit input ≡ 0 → Judged (sheet_in input) n → (n ≡ 0 → ⊥) → Printed input (refusal_text n)
-refused_untrue input zero e J ne = absurd (ne refl)
-refused_untrue input (suc n) e J ne = unproven e J.checked
+pub refused_unfit : (input : List ℕ) (r : Refusal) → number_of r ≡ unfit input → Printed input (refusal_text (number_of r))
+refused_unfit input r e = refused_early input (number_of r) e (number_some r)
 
-pub replied_true : (input : List ℕ) (n : ℕ) → unfit input ≡ 0 → Judged (sheet_in input) n → n ≡ 0 → Printed input (reply_text (program_reply input))
-replied_true input n e J z = replied {table = J.table} e (rw z at J.checked)
+refused_by : (input : List ℕ) (n : ℕ) → unfit input ≡ 0 → Judged (sheet_in input) n → (n ≡ 0 → ⊥) → Printed input (refusal_text n)
+refused_by input zero e J ne = absurd (ne refl)
+refused_by input (suc n) e J ne = unproven e J.checked
+
+-- what the check gives of an input that is fit
+pub judged_true : (input : List ℕ) (r : Result (Unit {0}) Refusal) → unfit input ≡ 0 → Judged (sheet_in input) (number r)
+    → IfOk r (λ _. (unfit input ≡ 0) × Judged (sheet_in input) 0)
+judged_true input (Ok a) e J = (e, J)
+judged_true input (Err r) e J = tt
+
+pub judged_untrue : (input : List ℕ) (r : Result (Unit {0}) Refusal) → unfit input ≡ 0 → Judged (sheet_in input) (number r)
+    → IfErr r (λ x. Printed input (refusal_text (number_of x)))
+judged_untrue input (Ok a) e J = tt
+judged_untrue input (Err r) e J = refused_by input (number_of r) e J (number_some r)
+
+pub replied_true : (input : List ℕ) → unfit input ≡ 0 → Judged (sheet_in input) 0 → Printed input (reply_text (program_reply input))
+replied_true input e J = asked {table = J.table} e J.checked
 
 -- no more offices are listed than there are
 pub count_most : (s : List ℕ) (q k d : ℕ) (a w : List ℕ) → (reply s q k d a w).count ≤ (offices_of s).count
@@ -65,3 +110,22 @@ program_is input q k d r a b c e = rw (← a, ← b, ← c) e
 pub program_count : (input : List ℕ) → unfit input ≡ 0 → (r : Reply) → r ≡ program_reply input → r.count ≤ program_offices
 unfolding program_reply
 program_count input h r e = omega (arith, ap (λ (x : Reply). x.count) e, count_most (sheet_in input) (word input 0) (word input 1) (word input 2) lent_answer lent_working, (fit input h).offices)
+
+-- what the question gives, with a refusal as its number
+abbrev pub as_number : Result Listed Refusal → Result Listed ℕ
+as_number (Ok l) = Ok l
+as_number (Err r) = Err (number_of r)
+
+pub mapped : (r : Result Listed Refusal) (t : Result Listed ℕ) → MatchResult r (λ l. t ≡ Ok l) (λ e. IsErrAnd t (λ n. n ≡ number_of e)) → t ≡ as_number r
+mapped (Ok l) t h = h
+mapped (Err r) t h = let p = err_from_is_err_and t h in p.1 ∙ ap Err p.2
+
+pub count_same : (r : Result Listed Refusal) (a w : List ℕ) → count_of (as_number r) ≡ (replied r a w).count
+count_same (Ok l) a w = refl
+count_same (Err r) a w = refl
+
+-- its text is that of the reply
+pub written_as : (r : Result Listed Refusal) (a w : List ℕ) {u v : List ℕ} {n : ℕ} → IfOk (as_number r) (λ l. (x : List ℕ) → Written 0 (reply_text (reply_of 0 l.count l.refinements a x)) u v n)
+    → IfErr (as_number r) (λ k. Written 0 (refusal_text k) u v n) → Written 0 (reply_text (replied r a w)) u v n
+written_as (Ok l) a w p q = p w
+written_as (Err r) a w p q = rw (reply_refused (number_of r) 0 0 a w (number_some r)) q

@@ -8,6 +8,7 @@ use lib.Dec.{leb}
 use lib.ListN.{length, take, drop}
 use borrow.Author.Tests.{le-leb, lt-leb, leb-true}
 use Rattle.paper.specs.declared.Counts.{Counts}
+use Rattle.paper.specs.Served.{refused, served}
 use Rattle.paper.specs.Sizes.{asked_bytes, program_bytes, program_places, program_offices}
 use Rattle.paper.specs.Test.{both, due, or_else}
 use Rattle.paper.specs.Sheet.{map_of, offices_of}
@@ -15,7 +16,6 @@ use Rattle.paper.specs.Layout.{layout}
 use Rattle.paper.specs.Printed.{unfit, sheet_in}
 use Rattle.paper.proofs.Test.{both_true, both_left, both_right, both_false_left, both_false_right, due_true, or_left, or_right}
 use Rattle.sheet.specs.Laid.{laid_of}
-use Rattle.sheet.specs.declared.Laid.TheVariants as laid
 use Rattle.sheet.proofs.Room.{parted, offices-counted, laid_counts, laid_number}
 use Rattle.sheet.specs.Laid.{Sectioned}
 use Rattle.sheet.proofs.Grounds.{rest_is, sectioned}
@@ -43,11 +43,11 @@ module _ (input : List ℕ) where
     sized : both long short ≡ true
     sized = both_true long short (le-leb asked_bytes (length input) a) (le-leb (length input) (asked_bytes + program_bytes) b)
 
-    pub unfit-layout : (n : ℕ) → laid.Refused n ≡ laid_of (sheet_in input) → n ≡ unfit input
+    pub unfit-layout : (n : ℕ) → refused n ≡ laid_of (sheet_in input) → n ≡ unfit input
     unfolding unfit
     unfit-layout n e = let (d, is, l) = laid_number (sheet_in input) n e in is ∙ rw (sized, l)
 
-    module _ (c : Counts) (e : laid.Out c ≡ laid_of (sheet_in input)) where
+    module _ (c : Counts) (e : served c ≡ laid_of (sheet_in input)) where
       abbrev few : Bool
       few = leb (map_of (sheet_in input)).places program_places
 
