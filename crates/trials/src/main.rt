@@ -7,11 +7,12 @@ mod marked;
 use crate::loops::LOOPS;
 use crate::marked::MARKED;
 use nearest::question;
+use paper::Refusal;
 use paper::sizes::{
     BLOCK_WORDS, INWARD, LINE_WORDS, OFFICE_WORDS, OUTWARD, PLACE_WORDS, SLOT_WORDS, STAGE_WORDS,
     WORD_BYTES,
 };
-use sheet::{Laid, layout};
+use sheet::layout;
 use std::io;
 use truth::check;
 
@@ -61,13 +62,9 @@ const BLOCKS_LEFT: u32 = BLOCKS as u32 - 1;
 // The words as bytes, low byte first.
 fn bytes_of(words: [u32; WORDS]) -> [u8; BYTES] {
     let mut bytes = [0u8; BYTES];
-    for i in 0..WORDS {
-        let word = words[i];
-        let at = WORD_BYTES * i;
-        bytes[at] = (word % 256) as u8;
-        bytes[at + 1] = (word / 256 % 256) as u8;
-        bytes[at + 2] = (word / 65536 % 256) as u8;
-        bytes[at + 3] = (word / 16777216 % 256) as u8;
+    let (chunks, _) = bytes.as_chunks_mut::<WORD_BYTES>();
+    for (chunk, word) in chunks.iter_mut().zip(&words) {
+        *chunk = word.to_le_bytes();
     }
     bytes
 }
@@ -75,37 +72,30 @@ fn bytes_of(words: [u32; WORDS]) -> [u8; BYTES] {
 // The marked sheet with one word changed.
 fn with_word(i: usize, value: u32) -> [u8; BYTES] {
     let mut words = MARKED;
-    if i < WORDS {
-        words[i] = value;
+    if let Some(word) = words.get_mut(i) {
+        *word = value;
     }
     bytes_of(words)
 }
 
 // The sheet up to its first office.
-fn front(sheet: [u8; BYTES]) -> [u8; FRONT_BYTES] {
+fn front(sheet: &[u8; BYTES]) -> [u8; FRONT_BYTES] {
     let mut bytes = [0u8; FRONT_BYTES];
-    for i in 0..FRONT_BYTES {
-        bytes[i] = sheet[i];
-    }
+    bytes.copy_from_slice(&sheet[..FRONT_BYTES]);
     bytes
 }
 
 // The marked sheet with office 0 alone.
 fn one_office() -> [u8; FRONT_BYTES] {
-    front(with_word(OFFICES_AT, 1))
+    front(&with_word(OFFICES_AT, 1))
 }
 
 // The marked sheet without its last block, that of place 3: the office section moves up by its words.
 fn without_last_block() -> [u8; SHORT_BYTES] {
-    let sheet = with_word(BLOCKS_AT, BLOCKS_LEFT);
+    let sheet = &with_word(BLOCKS_AT, BLOCKS_LEFT);
     let mut bytes = [0u8; SHORT_BYTES];
-    for i in 0..SHORT_BYTES {
-        bytes[i] = if i < LAST_BLOCK_AT {
-            sheet[i]
-        } else {
-            sheet[i + LAST_BLOCK_BYTES]
-        };
-    }
+    bytes[..LAST_BLOCK_AT].copy_from_slice(&sheet[..LAST_BLOCK_AT]);
+    bytes[LAST_BLOCK_AT..].copy_from_slice(&sheet[LAST_BLOCK_AT + LAST_BLOCK_BYTES..]);
     bytes
 }
 
@@ -117,35 +107,29 @@ fn end_line(rt: &impl Print) -> io::Result<()> {
     rt.println("")
 }
 
+// The number of a refusal, 0 where there is none.
+fn due(rt: &impl Print, name: &str, refusal: Option<Refusal>) -> io::Result<()> {
+    let number = refusal.map_or(0, u32::from);
+    say(rt, name, u64::from(number))?;
+    end_line(rt)
+}
+
 // The number of the layout.
 fn laid(rt: &impl Print, name: &str, sheet: &[u8]) -> io::Result<()> {
-    let parts = layout(sheet);
-    let number = match parts {
-        Laid::Out(_) => 0,
-        Laid::Refused(refusal) => refusal,
-    };
-    say(rt, name, number as u64)?;
-    end_line(rt)
+    due(rt, name, layout(sheet).err())
 }
 
 // The number of the check.
 fn checked(rt: &impl Print, name: &str, sheet: &[u8]) -> io::Result<()> {
     let mut distances = [0u32; PLACES * PLACES];
-    let number = check(sheet, &mut distances);
-    say(rt, name, number as u64)?;
-    end_line(rt)
+    due(rt, name, check(sheet, &mut distances).err())
 }
 
 // The words of so many answer lines.
 fn list(rt: &impl Print, answer: &[u64], words: usize) -> io::Result<()> {
-    for i in 0..words {
-        if i < answer.len() {
-            if i % LINE_WORDS == 0 {
-                say(rt, "; ", answer[i])?;
-            } else {
-                say(rt, " ", answer[i])?;
-            }
-        }
+    for (i, &word) in answer.iter().take(words).enumerate() {
+        let before = if i % LINE_WORDS == 0 { "; " } else { " " };
+        say(rt, before, word)?;
     }
     Ok(())
 }
@@ -162,10 +146,13 @@ fn asked(
     let mut answer = [0u64; LINE_WORDS * OFFICES];
     let mut working = [0u64; SLOT_WORDS * OFFICES];
     let reply = question(sheet, q, k, direction, &mut answer, &mut working);
-    let count = reply.count;
-    say(rt, name, reply.number as u64)?;
-    say(rt, ", ", count as u64)?;
-    say(rt, " listed, refinements ", reply.refinements)?;
+    let (number, count, refinements) = match reply {
+        Ok(listed) => (0, listed.count, listed.refinements),
+        Err(refusal) => (u32::from(refusal), 0, 0),
+    };
+    say(rt, name, u64::from(number))?;
+    say(rt, ", ", u64::from(count))?;
+    say(rt, " listed, refinements ", refinements)?;
     list(rt, &answer, LINE_WORDS * count as usize)?;
     end_line(rt)
 }
