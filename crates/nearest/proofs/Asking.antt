@@ -8,7 +8,6 @@ use Rattle.std.proofs.lemmas.List.{length-take-le}
 use Rattle.paper.specs.Sizes.{line_words, slot_words}
 use Rattle.paper.specs.Refusal.{number_of}
 use Rattle.paper.specs.declared.refusal.Refusal.{Refusal}
-use Rattle.paper.specs.declared.refusal.Refusal.TheVariants.{NotWhole, BadCount, BadPlaces, BadStages, BadBlocks, BadOffices, BadQuestion, BadK, SliceShort, TableShort, CutOff, NoBlock, WrongColour, WrongRatio, UselessBlock, TooManyStages, NoBlockOnWay, EmptyInterval, TooLarge}
 use Rattle.paper.specs.Served.{refused, served}
 use Rattle.paper.specs.Map.{Map, Offices}
 use Rattle.paper.specs.Sheet.{map_of, offices_in}
@@ -19,35 +18,10 @@ use Rattle.paper.specs.Listing.{State, listing}
 use Rattle.paper.specs.Slice.{cleared}
 use Rattle.paper.specs.Reply.{Reply, invalid, lines_out, walk_out, reply_on}
 use Rattle.paper.proofs.Reply.{Allowed, valid}
+use Rattle.paper.proofs.Numbers.{number_some}
 use Rattle.paper.proofs.Cleared.{cleared-same}
 use Rattle.nearest.specs.Working.{Beyond}
 use Rattle.nearest.proofs.Replies.{early, reply-invalid, walk-reply}
-
--- each refusal has a number, and it is not 0
-pub refusal_some : (r : Refusal) → 1 ≤ number_of r
-refusal_some NotWhole = omega arith
-refusal_some BadCount = omega arith
-refusal_some BadPlaces = omega arith
-refusal_some BadStages = omega arith
-refusal_some BadBlocks = omega arith
-refusal_some BadOffices = omega arith
-refusal_some BadQuestion = omega arith
-refusal_some BadK = omega arith
-refusal_some SliceShort = omega arith
-refusal_some TableShort = omega arith
-refusal_some CutOff = omega arith
-refusal_some NoBlock = omega arith
-refusal_some WrongColour = omega arith
-refusal_some WrongRatio = omega arith
-refusal_some UselessBlock = omega arith
-refusal_some TooManyStages = omega arith
-refusal_some NoBlockOnWay = omega arith
-refusal_some EmptyInterval = omega arith
-refusal_some TooLarge = omega arith
-
--- the first n words are lent, and become 0
-pub filled : (n : ℕ) (l r : List ℕ) → n ≤ length l → r ≡ replicate (length (take n l)) 0 → r ++ drop n l ≡ cleared n l
-filled n l r h e = ap (λ (z : List ℕ). z ++ drop n l) (e ∙ ap (λ (k : ℕ). replicate k 0) (length-take-le n l h))
 
 -- over a sheet that its layout passes
 module _ (s : Sheet) (q k d : ℕ) (a w : List ℕ) where
@@ -65,7 +39,7 @@ module _ (s : Sheet) (q k d : ℕ) (a w : List ℕ) where
   refused_by (suc y) p t = sym (reply-invalid 0 m o q k d a w refl y (sym t))
 
   pub ask_invalid : (r : Refusal) → number_of r ≡ invalid m o q k d a w → early (number_of r) a w ≡ reply_on 0 m o q k d a w
-  ask_invalid r t = refused_by (number_of r) (refusal_some r) t
+  ask_invalid r t = refused_by (number_of r) (number_some r) t
 
   module _ (ok : 0 ≡ invalid m o q k d a w) where
     pub ask-allowed : Allowed m o q k d a w

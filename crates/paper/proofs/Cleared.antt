@@ -3,8 +3,8 @@ use Prim.Native.Nat.{ℕ, zero, suc, ◌+◌, ◌-◌, ◌≤◌}
 use native.Mathlib.Omega.{arith}
 use mathlib.Core.Path.{◌≡◌, refl, sym, ap, ◌∙◌}
 use mathlib.Core.List.{List, ◌++◌}
-use lib.ListN.{length, get_or, drop, replicate, length-append, length-replicate, length-drop}
-use lib.Seq.{ext_get_or, get_or-drop, drop_at}
+use lib.ListN.{length, get_or, take, drop, replicate, length-append, length-replicate, length-drop}
+use lib.Seq.{ext_get_or, get_or-drop, drop_at, length-take-le}
 use Rattle.paper.specs.Slice.{Untouched, cleared}
 
 -- every word of a slice of zeros is 0, past its end too
@@ -33,3 +33,7 @@ pub cleared-same : (n : ℕ) (a b : List ℕ) → length b ≡ length a → Unto
 cleared-same n a b e U =
     ap (λ (r : List ℕ). replicate n 0 ++ r) (ext_get_or 0 (drop n b) (drop n a) (omega (arith, length-drop n a, length-drop n b))
     (λ i p. get_or-drop n b i 0 ∙ U (n + i) (omega arith) ∙ sym (get_or-drop n a i 0)))
+
+-- the library's fill leaves the first n words cleared
+pub filled : (n : ℕ) (l new : List ℕ) → n ≤ length l → new ≡ replicate (length (take n l)) 0 → new ++ drop n l ≡ cleared n l
+filled n l new p e = ap (λ (x : List ℕ). x ++ drop n l) (e ∙ ap (λ (j : ℕ). replicate j 0) (length-take-le n l p))

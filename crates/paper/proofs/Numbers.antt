@@ -2,6 +2,8 @@
 use Prim.Native.Nat.{ℕ, ◌<◌}
 use native.Mathlib.Omega.{arith}
 use mathlib.Core.Path.{◌≡◌, refl, sym, ap, ◌∙◌}
+use mathlib.Core.List.{List, [], ◌∷◌}
+use lib.ListN.{get_or}
 use Rattle.paper.specs.declared.refusal.Refusal.{Refusal}
 use Rattle.paper.specs.declared.refusal.Refusal.TheVariants.{NotWhole, BadCount, BadPlaces, BadStages, BadBlocks, BadOffices, BadQuestion, BadK, SliceShort, TableShort, CutOff, NoBlock, WrongColour, WrongRatio, UselessBlock, TooManyStages, NoBlockOnWay, EmptyInterval, TooLarge}
 use Rattle.paper.specs.Refusal.{number_of}
@@ -26,3 +28,31 @@ number_some TooManyStages = omega arith
 number_some NoBlockOnWay = omega arith
 number_some EmptyInterval = omega arith
 number_some TooLarge = omega arith
+
+-- the refusals by number, with 0 and 19 filled up
+abbrev all : List Refusal
+all = NotWhole ∷ NotWhole ∷ BadCount ∷ BadPlaces ∷ BadStages ∷ BadBlocks ∷ BadOffices ∷ BadQuestion ∷ BadK ∷ SliceShort ∷ TableShort ∷ CutOff ∷ NoBlock ∷ WrongColour ∷ WrongRatio ∷ UselessBlock ∷ TooManyStages ∷ NoBlockOnWay ∷ EmptyInterval ∷ NotWhole ∷ TooLarge ∷ []
+
+back : (r : Refusal) → get_or all (number_of r) NotWhole ≡ r
+back NotWhole = refl
+back BadCount = refl
+back BadPlaces = refl
+back BadStages = refl
+back BadBlocks = refl
+back BadOffices = refl
+back BadQuestion = refl
+back BadK = refl
+back SliceShort = refl
+back TableShort = refl
+back CutOff = refl
+back NoBlock = refl
+back WrongColour = refl
+back WrongRatio = refl
+back UselessBlock = refl
+back TooManyStages = refl
+back NoBlockOnWay = refl
+back EmptyInterval = refl
+back TooLarge = refl
+
+pub number_one : (r r' : Refusal) → number_of r ≡ number_of r' → r ≡ r'
+number_one r r' e = sym (back r) ∙ ap (λ (n : ℕ). get_or all n NotWhole) e ∙ back r'

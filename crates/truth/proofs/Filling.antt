@@ -144,7 +144,3 @@ module _ (s : Survey) where
         go : (x : Option code.Fault) → x ≡ None → due (all_used s.chart.ground.counts.blocks marks) 15 ≡ number_of_check n s.chart.ground.counts.blocks marks (found_below n x)
         go None h = number_marks n s.chart.ground.counts.blocks marks (none_below n) (omega arith) _ refl
         go (Some y) h = cc
-
--- what the library's fill leaves
-pub filled : (k : ℕ) (l new : List ℕ) → k ≤ length l → new ≡ replicate (length (take k l)) 0 → new ++ drop k l ≡ cleared k l
-filled k l new p e = ap (λ (x : List ℕ). x ++ drop k l) (e ∙ ap (λ (j : ℕ). replicate j 0) (length-take-le k l p))

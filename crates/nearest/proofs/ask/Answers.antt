@@ -6,7 +6,8 @@ use Rattle.std.proofs.lemmas.Result.{err_from_is_err_and}
 use Rattle.paper.specs.Sheet.{map_of, offices_in}
 use Rattle.paper.specs.Reply.{invalid}
 use Rattle.sheet.proofs.Grounds.{roll_count}
-use Rattle.nearest.proofs.Asking.{ask_invalid, ask-allowed, ask-works, ask-done, ask-refused, filled}
+use Rattle.paper.proofs.Cleared.{filled}
+use Rattle.nearest.proofs.Asking.{ask_invalid, ask-allowed, ask-works, ask-done, ask-refused}
 use Rattle.nearest.proofs.ask.Goals.{In_ok-invalid}
 use Rattle.nearest.proofs.ask.Goals as goal
 

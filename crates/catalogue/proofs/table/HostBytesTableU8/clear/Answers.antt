@@ -6,7 +6,7 @@ use native.Mathlib.Omega.{arith}
 use Rattle.paper.specs.Sizes.{word_bytes}
 use Rattle.paper.specs.Slice.{cleared}
 use Rattle.paper.proofs.Words.{cleared-written}
-use Rattle.truth.proofs.Filling.{filled}
+use Rattle.paper.proofs.Cleared.{filled}
 use Rattle.catalogue.proofs.Tabled.{held}
 use Rattle.catalogue.proofs.table.HostBytesTableU8.clear.Goals as goal
 
