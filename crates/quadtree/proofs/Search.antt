@@ -2,7 +2,7 @@
 use Prim.Native.Nat.{ℕ, ◌+◌, ◌-◌, ◌/◌, ◌^◌, ◌≤◌, ◌<◌}
 use native.Mathlib.Omega.{arith}
 use native.Mathlib.Decide.{dec_lt}
-use mathlib.Core.Path.{◌≡◌, refl, ap, sym, ◌∙◌}
+use mathlib.Core.Path.{◌≡◌, refl, ap, sym}
 use mathlib.Core.Bool.{Bool, true, false}
 use lib.Dec.{leb, ltb, eqb}
 use native.Mathlib.Nat.{one-le-pow}
@@ -14,20 +14,15 @@ use Rattle.paper.specs.Cell.{cell}
 use Rattle.paper.specs.Block.{covers}
 use Rattle.paper.proofs.LaidOut.{Grounded}
 use Rattle.cells.proofs.Codes.{code_lt}
-use Rattle.paper.proofs.Test.{true_false, both_left, both_right, both_false_left, both_false_right}
+use Rattle.paper.proofs.Test.{both_left, both_right, both_false_left, both_false_right}
 use Rattle.paper.proofs.Block.{block_is, block_none_of}
-use Rattle.std.specs.Prelude.{Option, Some, None}
-use Rattle.quadtree.specs.Blocks.{key_of, key_at, Last, covers_code, Found, cover_of, CoverIs}
+use Rattle.std.specs.Prelude.{Some, None}
+use Rattle.quadtree.specs.Blocks.{key_of, key_at, Last, covers_code, cover_of, CoverIs}
 
 -- the code of every place is one of the grid's
 pub cell_lt : (m : Map) (v k : ℕ) → k ≡ cell m v → k < 4 ^ top_level
 unfolding cell
 cell_lt m v k e = rw e (code_lt (m.x v) (m.y v))
-
--- a block that is found is one of the blocks
-pub found_under : (m : Map) (u code b : ℕ) (r : Option ℕ) → r ≡ Some b → Found m u code r → b < m.blocks
-found_under m u code b (Some x) e f = let same : x ≡ b = cc in omega (arith, f.0)
-found_under m u code b None e f = let z : ◌≡◌ {A = ℕ} 0 1 = cc in absurd (omega arith)
 
 -- the block that is sought is one of the span blocks from last on
 pub record Narrow (m : Map) (k last span : ℕ) : Type 0 where
@@ -68,13 +63,6 @@ module _ (m : Map) (u code b : ℕ) where
       → ltb code (f + n) ≡ covers_code m u code b
   unfolding covers_code
   covers_from o f l n e p g q d h = rw (← e, ← g, ← d, eq-eqb o u p, le-leb f code q, h)
-
-pub narrow_all : (m : Map) (k : ℕ) → 1 ≤ m.blocks → Narrow m k 0 m.blocks
-narrow_all m k h = record { some = h; under = omega arith; reached = λ p. absurd (omega arith); above = λ i p q. absurd (omega arith) }
-
-pub narrow_one : (m : Map) (k last span : ℕ) → Narrow m k last span → span ≤ 1 → Last m k last
-narrow_one m k last span N h =
-    record { under = omega (arith, N.some, N.under); reached = N.reached; above = λ i p q. N.above i (omega (arith, N.some)) q }
 
 module _ {m : Map} (G : Grounded m) where
   pub key_rises : (b c : ℕ) → b < c → c < m.blocks → key_at m b < key_at m c
@@ -141,21 +129,3 @@ module _ {m : Map} (G : Grounded m) where
   pub cover_empty : (u code : ℕ) → m.blocks ≡ 0 → CoverIs m u code None
   unfolding covers covers_code
   cover_empty u code h = record { found = λ b p. absurd (omega arith); block = λ v e. sym (ap cover_of (block_none_of m u v (λ b p. absurd (omega arith)))) }
-
-  -- the answer for a code is determined
-  pub cover_one : (u code : ℕ) (r r' : Option ℕ) → Found m u code r → Found m u code r' → r ≡ r'
-  cover_one u code (Some b) (Some c) (p, t) (p', t') = ap Some (same (dec_lt b c) (dec_lt c b))
-    where
-      B : Within m u code b
-      B = within m u code b t
-
-      C : Within m u code c
-      C = within m u code c t'
-
-      same : Dec (b < c) → Dec (c < b) → b ≡ c
-      same (yes l) q = absurd (omega (arith, G.parted b c l p' (B.owner ∙ sym C.owner), B.to, C.from))
-      same (no l) (yes q) = absurd (omega (arith, G.parted c b q p (C.owner ∙ sym B.owner), C.to, B.from))
-      same (no l) (no q) = omega arith
-  cover_one u code (Some b) None (p, t) none-does = true_false t (none-does b p)
-  cover_one u code None (Some c) none-does (p, t) = true_false t (none-does c p)
-  cover_one u code None None f g = refl

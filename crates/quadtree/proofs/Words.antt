@@ -5,15 +5,14 @@ use native.Mathlib.Nat.{pow-le-pow_right}
 use mathlib.Core.Path.{◌≡◌}
 use mathlib.Core.List.{List}
 use lib.ListN.{length}
-use Rattle.paper.specs.Sizes.{place_words, block_words, most_places, top_level}
-use Rattle.paper.specs.Sheet.{word, blocks_at, map_of}
+use Rattle.paper.specs.Sizes.{place_words, most_places, top_level}
+use Rattle.paper.specs.Sheet.{map_of}
 use Rattle.paper.specs.Layout.{Bytes}
 use Rattle.paper.specs.declared.Cell.{Cell}
 use Rattle.paper.specs.declared.Counts.{Counts}
 use Rattle.paper.proofs.LaidOut.{Grounded}
 use Rattle.paper.proofs.Laid.{PlaceOk, place_ok}
 use Rattle.cells.specs.Cells.{OnGrid}
-use Rattle.sheet.specs.Laid.{blocks_from}
 use Rattle.sheet.specs.Records.{LiesAt}
 use Rattle.sheet.specs.Ground.{Ground}
 use Rattle.sheet.proofs.Room.{Room, room}
@@ -31,13 +30,6 @@ module _ {g : List ℕ} {c : Counts} (G : Ground g c) where
   on_grid v k p A =
       let P : PlaceOk (map_of g) v = place_ok (map_of g) G.places v (omega (arith, standing.places)) in
       record { x = omega (arith, A.x, P.x); y = omega (arith, A.y, P.y) }
-
-  pub block_room : (b k : ℕ) → b < c.blocks → k ≤ block_words → 4 * (blocks_from c + k + block_words * b) + 4 ≤ length g
-  block_room b k p q = omega (arith, standing)
-
-  -- a word of a block's record, from where the code finds the section
-  pub block_at : (a k b : ℕ) → a ≡ blocks_from c → word g (a + k + block_words * b) ≡ word g (blocks_at g + k + block_words * b)
-  block_at a k b e = rw (e, standing.blocks_at_lem)
 
   module _ (bytes : Bytes g) where
     pub rules : Grounded (map_of g)

@@ -20,12 +20,6 @@ overflow_cast-place c = omega (arith, (standing c.args.ground.now.keeps).within.
 pub key-requires : goal.key-requires
 key-requires c = omega (arith, (standing c.args.ground.now.keeps).within.places)
 
-pub last_up_to-b-requires : goal.last_up_to-b-requires
-last_up_to-b-requires c = omega (arith, c.if-ground-eq0.false)
-
-pub covers-requires : goal.covers-requires
-covers-requires c = omega (arith, c.last_up_to-b.ensures.under, (standing c.args.ground.now.keeps).blocks)
-
 pub returns-then-covers : goal.returns-then-covers
 returns-then-covers c = let g = c.args.ground.now in cover-some (rules g.keeps g.fits) _ _ _ c.requires.1 (last (goal.at.returns-then-covers c).After-covers) (sym c.covers.ensures ∙ c.if-covers.true)
 

@@ -1,18 +1,9 @@
 -- `quadtree::blocks::last_up_to` meets its contract. The invariant: the block is one of the next `span`. The measure is `span`.
 use native.Mathlib.Omega.{arith}
-use Rattle.quadtree.proofs.Words.{standing, rules}
-use Rattle.quadtree.proofs.Search.{narrow_all, narrow_up, narrow_down, narrow_one}
+use Rattle.quadtree.proofs.Words.{rules}
+use Rattle.quadtree.proofs.Search.{narrow_up, narrow_down}
 use Rattle.quadtree.proofs.blocks.last_up_to.Goals.{then-key_of-asked, else-key_of-asked}
 use Rattle.quadtree.proofs.blocks.last_up_to.Goals as goal
-
-pub loop-span-init : goal.loop-span-init
-loop-span-init c = let e = (standing c.args.ground.now.keeps).blocks in simp e (narrow_all _ _ (omega (arith, c.requires)))
-
-pub overflow_add-middle : goal.overflow_add-middle
-overflow_add-middle c = omega (arith, (standing c.args.ground.now.keeps).blocks)
-
-pub key_of-requires : goal.key_of-requires
-key_of-requires c = omega (arith, (standing c.args.ground.now.keeps).blocks)
 
 pub loop-span-preserved : goal.loop-span-preserved
 loop-span-preserved c =
@@ -23,6 +14,3 @@ loop-span-preserved c =
       | then-key_of-asked w ↦ rw w.last-is (narrow_up G _ i.last i.span i.invariant (omega arith) (omega (arith, w.if-key_of-asked.true, c.key_of.ensures)))
       | else-key_of-asked w ↦ rw w.last-is (narrow_down G _ i.last i.span i.invariant (omega arith) (omega (arith, w.if-key_of-asked.false, c.key_of.ensures)))
     ]
-
-pub returns : goal.returns
-returns c = let i = c.loop-span in narrow_one _ _ i.last i.span i.invariant (omega arith)

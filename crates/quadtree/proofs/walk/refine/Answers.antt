@@ -7,7 +7,7 @@ use Rattle.paper.specs.Map.{Map}
 use Rattle.paper.specs.Sheet.{map_of}
 use Rattle.paper.specs.Block.{block_of}
 use Rattle.paper.specs.Ground.{SameGround}
-use Rattle.paper.proofs.Block.{BlockOf, block_of_lem}
+use Rattle.paper.proofs.Block.{block_of_lem}
 use Rattle.paper.proofs.Ground.{block_same}
 use Rattle.sheet.specs.Charts.{OnChart}
 use Rattle.quadtree.specs.Blocks.{cover_of}
@@ -30,10 +30,6 @@ module _ (c : After-block_of) (m : Map) (S : SameGround m (map_of c.args.chart.n
   more : m.places ≡ c.args.chart.now.ground.counts.places
   more = S.places ∙ sym (standing c.args.chart.now.ground.keeps).places
 
--- the block that was found is the via's
-found-block : (c : In-Some) → let g = map_of c.args.chart.now.ground.bytes.now in BlockOf g c.args.t.via c.args.v g.blocks c.in-Some.b
-found-block c = block_of_lem _ _ _ _ (cover_some _ _ (sym c.in-Some.is ∙ c.block_of.ensures.block _ (sym c.code-code.ensures)))
-
 -- what the reads of the stage that it names need, and the stage on any map that has the ground and the book
 read : (c : After-stage_of-i) → Reads (map_of c.args.chart.now.ground.bytes.now).places c.args.chart.now.heads.now c.args.chart.now.lengths.now c.stage_of-i.result
 read c = let B = block_of_lem _ _ _ _ (cover_some _ _ (sym c.in-Some.is ∙ c.block_of.ensures.block _ (sym c.code-code.ensures))) in reads c.args.chart.now.stocked _ _ _ B.under B.owner c.stage_of-i.ensures
@@ -46,11 +42,6 @@ returns-then-ground-t c m C = refine_last _ _ _ (omega (arith, c.if-ground-t.tru
 
 pub block_of-requires : goal.block_of-requires
 block_of-requires c = (c.requires.1.via, cell_lt _ _ _ c.code-code.ensures)
-
-pub stage_of-i-requires : goal.stage_of-i-requires
-stage_of-i-requires c =
-    let e = standing c.args.chart.now.ground.keeps in
-    (omega (arith, c.requires.1.via, e.places, c.args.chart.now.stocked.places), omega (arith, found-block (goal.at.stage_of-i-requires c).In-Some, e.blocks))
 
 pub offset_bounds-chart-i : goal.offset_bounds-chart-i
 offset_bounds-chart-i c = omega (arith, read (goal.at.offset_bounds-chart-i c).After-stage_of-i)
