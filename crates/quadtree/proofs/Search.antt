@@ -55,9 +55,9 @@ module _ (m : Map) (u code b : ℕ) where
   unfolding covers_code
   covers_other o e ne = rw (← e, ne_eqb o u ne)
 
-  pub covers-before : (f : ℕ) → f ≡ m.code b → code < f → false ≡ covers_code m u code b
+  pub covers_before : (f : ℕ) → f ≡ m.code b → code < f → false ≡ covers_code m u code b
   unfolding covers_code
-  covers-before f e p = sym (both_false_right (eqb (m.owner b) u) _ (both_false_left (leb (m.code b) code) _ (lt-leb _ _ (rw e at p))))
+  covers_before f e p = sym (both_false_right (eqb (m.owner b) u) _ (both_false_left (leb (m.code b) code) _ (lt-leb _ _ (rw e at p))))
 
   pub covers_from : (o f l n : ℕ) → o ≡ m.owner b → o ≡ u → f ≡ m.code b → f ≤ code → l ≡ m.level b → n ≡ 4 ^ l
       → ltb code (f + n) ≡ covers_code m u code b

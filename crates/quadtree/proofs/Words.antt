@@ -40,14 +40,14 @@ module _ {g : List ℕ} {c : Counts} (G : Ground g c) where
       one = omega (arith, standing.blocks)
 
       -- the place and the code of a block are small enough for its key
-      pub key-room : (o k : ℕ) → o ≡ (map_of g).owner b → k ≡ (map_of g).code b → (o < most_places) × (k < 4 ^ top_level)
-      key-room o k e f = omega (arith, rules.owners b one, rules.places, rules.codes b one)
+      pub key_room : (o k : ℕ) → o ≡ (map_of g).owner b → k ≡ (map_of g).code b → (o < most_places) × (k < 4 ^ top_level)
+      key_room o k e f = omega (arith, rules.owners b one, rules.places, rules.codes b one)
 
-      pub level-room : (l : ℕ) → l ≡ (map_of g).level b → l ≤ top_level
-      level-room l e = omega (arith, rules.levels b one)
+      pub level_room : (l : ℕ) → l ≡ (map_of g).level b → l ≤ top_level
+      level_room l e = omega (arith, rules.levels b one)
 
       -- where a block ends
-      pub end-room : (f l n : ℕ) → f ≡ (map_of g).code b → l ≡ (map_of g).level b → n ≡ 4 ^ l → f + n ≤ 2 * 4 ^ top_level
-      end-room f l n e d h =
-          let most : 4 ^ l ≤ 4 ^ top_level = pow-le-pow_right (omega arith) (level-room l d) in
+      pub end_room : (f l n : ℕ) → f ≡ (map_of g).code b → l ≡ (map_of g).level b → n ≡ 4 ^ l → f + n ≤ 2 * 4 ^ top_level
+      end_room f l n e d h =
+          let most : 4 ^ l ≤ 4 ^ top_level = pow-le-pow_right (omega arith) (level_room l d) in
           omega (arith, rules.codes b one)

@@ -45,6 +45,7 @@ fn last_up_to(ground: &Ground, asked: u32) -> usize
 }
 
 // Whether the block b is that of the place u and covers the code.
+#[tactic(auto, using(crate::proofs::Search::covers_other, crate::proofs::Search::covers_before))]
 fn covers(ground: &Ground, b: usize, u: u32, code: u32) -> bool
     requires { b < ground.now.counts.blocks }
     ensures { result ≡ covers_code (map_of ground.now.bytes.now) u code b }

@@ -35,6 +35,7 @@ fn high_end(ratio: u32, c: Spatial) -> Network
 }
 
 // The crow distance between two places.
+#[tactic(auto, using(cells::proofs::Codes::crow_places))]
 pub fn crow(ground: &Ground, u: usize, v: usize) -> Spatial
     requires { (u < ground.now.counts.places) × (v < ground.now.counts.places) }
     ensures { result.0 ≡ crow_of (map_of ground.now.bytes.now) u v }
@@ -43,6 +44,7 @@ pub fn crow(ground: &Ground, u: usize, v: usize) -> Spatial
 }
 
 // The code of the place v.
+#[tactic(auto, using(cells::proofs::Codes::code_place))]
 pub fn code(ground: &Ground, v: usize) -> u32
     requires { v < ground.now.counts.places }
     ensures { result ≡ cell (map_of ground.now.bytes.now) v }
@@ -63,6 +65,7 @@ fn ends_of(ground: &Ground, b: usize, c: Spatial) -> Ends
 }
 
 // The interval between u and v, whose code is given: 0 to 0 for the same place; 17 where no block of u covers v.
+#[tactic(auto, using(crate::proofs::Steps::between_home, crate::proofs::Steps::between_by, crate::proofs::Steps::between_none, crate::proofs::Search::cell_lt))]
 pub fn towards(ground: &Ground, u: usize, v: usize, code: u32) -> Result<Ends, Refusal>
     requires { (u < ground.now.counts.places) × (v < ground.now.counts.places) × (code ≡ cell (map_of ground.now.bytes.now) v) }
     ensures { served_as ends_as result ≡ between_of (map_of ground.now.bytes.now) u v }

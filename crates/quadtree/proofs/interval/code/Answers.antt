@@ -1,6 +1,4 @@
 -- `quadtree::interval::code` meets its contract.
-use mathlib.Core.Path.{◌∙◌}
-use Rattle.cells.proofs.Codes.{code_place}
 use Rattle.quadtree.proofs.Words.{place_room, on_grid}
 use Rattle.quadtree.proofs.interval.code.Goals as goal
 
@@ -9,6 +7,3 @@ cell_of-requires c = place_room c.args.ground.now.keeps _ c.requires
 
 pub code-requires : goal.code-requires
 code-requires c = on_grid c.args.ground.now.keeps _ _ c.requires c.cell_of.ensures
-
-pub returns : goal.returns
-returns c = c.code.ensures ∙ code_place _ _ _ c.cell_of.ensures.x c.cell_of.ensures.y
