@@ -1,47 +1,42 @@
--- A word written byte by byte, and words written one after the other or in the place of others.
-use Prim.Native.Nat.{ℕ, suc, ◌+◌, ◌*◌, ◌/◌, ◌%◌, ◌^◌, ◌≤◌, ◌<◌}
-use native.Mathlib.Nat.{mul-suc}
+-- A word written as its bytes, and words written one after the other or in the place of others.
+use Prim.Native.Nat.{ℕ, zero, suc, ◌+◌, ◌*◌, ◌/◌, ◌%◌, ◌^◌, ◌≤◌, ◌<◌}
+use native.Mathlib.Nat.{mul-suc, pow-suc, div-div-eq-div-mul}
+use native.Mathlib.Numerals.{add-one}
 use native.Mathlib.Omega.{arith}
 use mathlib.Core.Path.{◌≡◌, refl, sym, ap, subst, ◌∙◌}
 use mathlib.Core.List.{List, [], ◌∷◌, ◌++◌, append_assoc}
 use lib.ListN.{length, get_or, take, drop, set, length-append, length-set, take-append-drop}
-use lib.Seq.{take_at, drop_at, drop-drop, set_split, split_at, length-take-le}
-use Rattle.paper.specs.Sizes.{word_bytes, long_bytes, counts_bytes}
+use lib.Seq.{take_at, drop_at, drop-drop, set_split, split_at, take-suc, length-take-le}
+use borrow.Rule.Slice.PartMut.{put_mid}
+use Rattle.std.specs.Int.{byte_at, bytes_low_first}
+use Rattle.paper.specs.Sizes.{long_bytes, counts_bytes}
 use Rattle.paper.specs.Words.{bytes_of, as_bytes, written}
 use Rattle.paper.specs.Host.{counted}
-use Rattle.paper.proofs.Words.{bytes_size, as_bytes_size, as_bytes_append, written_none, bytes_halves}
+use Rattle.paper.proofs.Words.{bytes_size, as_bytes_size, as_bytes_append, written_none}
 use Rattle.paper.proofs.Host.{counted_long}
 use Rattle.text.specs.Put.{Put}
-use Rattle.text.proofs.Put.{put_byte, put_then, put_length}
 
--- four bytes, one after the other
-pub put_four : (at a b c d : ℕ) (u : List ℕ) → at + word_bytes ≤ length u → Put at (a ∷ b ∷ c ∷ d ∷ []) u (set (set (set (set u at a) (at + 1) b) (at + 2) c) (at + 3) d)
-put_four at a b c d u h = put_then (put_then (put_then first second) third) fourth
-  where
-    first : Put at (a ∷ []) u (set u at a)
-    first = put_byte at a u (omega arith)
+-- the bytes of a number from byte i on, as the paper has those of what is left of it
+low_byte : (i x : ℕ) → byte_at i x ≡ x / 256 ^ i % 256
+low_byte zero x = omega arith
+low_byte (suc i) x = refl
 
-    second : Put (at + 1) (b ∷ []) (set u at a) (set (set u at a) (at + 1) b)
-    second = put_byte (at + 1) b (set u at a) (omega (arith, put_length first))
-
-    third : Put (at + 2) (c ∷ []) (set (set u at a) (at + 1) b) (set (set (set u at a) (at + 1) b) (at + 2) c)
-    third = put_byte (at + 2) c (set (set u at a) (at + 1) b) (omega (arith, put_length first, put_length second))
-
-    fourth : Put (at + 3) (d ∷ []) (set (set (set u at a) (at + 1) b) (at + 2) c) (set (set (set (set u at a) (at + 1) b) (at + 2) c) (at + 3) d)
-    fourth = put_byte (at + 3) d (set (set (set u at a) (at + 1) b) (at + 2) c) (omega (arith, put_length first, put_length second, put_length third))
-
-pub put_word : (at x : ℕ) (u : List ℕ) → at + word_bytes ≤ length u
-    → Put at (bytes_of word_bytes x) u (set (set (set (set u at (x % 256)) (at + 1) (x / 256 % 256)) (at + 2) (x / 256 / 256 % 256)) (at + 3) (x / 256 / 256 / 256 % 256))
+low_first : (i w x : ℕ) → bytes_low_first i w x ≡ bytes_of w (x / 256 ^ i)
 unfolding bytes_of
-put_word at x u h = put_four at (x % 256) (x / 256 % 256) (x / 256 / 256 % 256) (x / 256 / 256 / 256 % 256) u h
+low_first i zero x = refl
+low_first i (suc w) x =
+    let rest : x / 256 ^ suc i ≡ x / 256 ^ i / 256 = ap (λ (n : ℕ). x / n) (pow-suc 256 i) ∙ sym (div-div-eq-div-mul x (256 ^ i) 256) in
+    ap (λ (b : ℕ). b ∷ bytes_low_first (suc i) w x) (low_byte i x) ∙ ap (λ (l : List ℕ). x / 256 ^ i % 256 ∷ l) (low_first (suc i) w x ∙ ap (bytes_of w) rest)
 
--- a word of 64 bits by its halves
-pub put_long : (at x y z : ℕ) (u v w : List ℕ) → y ≡ x % 256 ^ word_bytes → z ≡ x / 256 ^ word_bytes → Put at (bytes_of word_bytes y) u v → Put (at + word_bytes) (bytes_of word_bytes z) v w
-    → Put at (bytes_of long_bytes x) u w
-put_long at x y z u v w e f P Q =
-    subst (λ (l : List ℕ). Put at l u w) (sym (bytes_halves x))
-    (put_then (subst (λ (n : ℕ). Put at (bytes_of word_bytes n) u v) e P)
-    (subst (λ (n : ℕ). Put (at + n) (bytes_of word_bytes (x / 256 ^ word_bytes)) v w) (sym (bytes_size word_bytes (x % 256 ^ word_bytes))) (subst (λ (n : ℕ). Put (at + word_bytes) (bytes_of word_bytes n) v w) f Q)))
+-- the bytes of a number, copied to their place
+pub put_bytes : (w at k x : ℕ) (u ys : List ℕ) → at + w ≤ length u → k ≡ w → ys ≡ bytes_low_first 0 w x → Put at (bytes_of w x) u (put_mid at k u ys)
+put_bytes w at k x u ys h e f = record {
+  fits = omega (arith, bytes_size w x);
+  whole =
+      let same : ys ≡ bytes_of w x = f ∙ low_first 0 w x ∙ ap (bytes_of w) (omega arith) in
+      ap (λ (l : List ℕ). take at u ++ (l ++ drop k (drop at u))) same
+      ∙ ap (λ (l : List ℕ). take at u ++ (bytes_of w x ++ l)) (drop-drop k at u ∙ ap (λ (n : ℕ). drop (at + n) u) (e ∙ sym (bytes_size w x)));
+}
 
 -- a text in the place of another that is as long
 put_seam : (a b c text v : List ℕ) (at : ℕ) → length a ≡ at → length b ≡ length text → Put at text (a ++ (b ++ c)) v → v ≡ a ++ (text ++ c)
@@ -107,6 +102,12 @@ written_next w x xs b v P =
 pub next_at : (w x i : ℕ) (xs b u v : List ℕ) → length xs ≡ i → u ≡ written w xs b → Put (w * i) (bytes_of w x) u v → v ≡ written w (xs ++ (x ∷ [])) b
 next_at w x i xs b u v e h P =
     written_next w x xs b v (subst (λ (n : ℕ). Put (w * n) (bytes_of w x) (written w xs b) v) (sym e) (subst (λ (l : List ℕ). Put (w * i) (bytes_of w x) l v) h P))
+
+-- so many words, and one more of them
+pub written_more : (w i : ℕ) (xs b u v : List ℕ) → i < length xs → u ≡ written w (take i xs) b → Put (w * i) (bytes_of w (get_or xs i 0)) u v → v ≡ written w (take (i + 1) xs) b
+written_more w i xs b u v h e P =
+    next_at w (get_or xs i 0) i (take i xs) b u v (length-take-le i xs (omega arith)) e P
+    ∙ ap (λ (l : List ℕ). written w l b) (sym (ap (λ (j : ℕ). take j xs) (add-one i) ∙ take-suc xs i 0 h))
 
 pub set_at : (w i x : ℕ) (xs b u v : List ℕ) → i < length xs → u ≡ written w xs b → Put (w * i) (bytes_of w x) u v → v ≡ written w (set xs i x) b
 set_at w i x xs b u v p h P = written-set w i x xs b v p (subst (λ (l : List ℕ). Put (w * i) (bytes_of w x) l v) h P)

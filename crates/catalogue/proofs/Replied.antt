@@ -1,5 +1,5 @@
 -- The reply that the code hands over is that of the definitions: refused before the walk, listed, or refused by the walk.
-use Prim.Native.Nat.{ℕ, zero, suc, ◌*◌, ◌/◌, ◌≤◌}
+use Prim.Native.Nat.{ℕ, zero, suc, ◌*◌, ◌/◌, ◌≤◌, ◌<◌}
 use native.Mathlib.Omega.{arith}
 use mathlib.Core.Path.{◌≡◌, refl, sym, ap, subst, ◌∙◌}
 use mathlib.Core.List.{List, ◌++◌}
@@ -8,7 +8,10 @@ use Rattle.paper.specs.Sizes.{line_words, slot_words, long_bytes}
 use Rattle.paper.specs.Served.{refused, served}
 use Rattle.paper.specs.Map.{Map, Offices}
 use Rattle.paper.specs.Quest.{Quest, directed}
-use Rattle.paper.specs.Sheet.{map_of, offices_of}
+use Rattle.paper.specs.Sheet.{map_of, offices_in, offices_of}
+use Rattle.paper.specs.Refusal.{number_of}
+use Rattle.paper.specs.declared.Counts.{Counts}
+use Rattle.paper.specs.declared.refusal.Refusal.{Refusal}
 use Rattle.paper.specs.Layout.{Bytes, layout}
 use Rattle.paper.specs.Verdict.{Accepted}
 use Rattle.paper.specs.Listing.{State, listing}
@@ -20,10 +23,11 @@ use Rattle.paper.specs.Host.{HostReply, counted, in_bytes, host_invalid, host_re
 use Rattle.paper.proofs.Test.{or_first, or_next}
 use Rattle.paper.proofs.Reply.{Allowed, valid, lines_size}
 use Rattle.paper.proofs.Words.{words_size, written_same, written_front, written-cleared}
+use Rattle.paper.proofs.Numbers.{number_some}
 use Rattle.paper.proofs.Host.{host_valid, host_answered}
-use Rattle.sheet.specs.Laid.{laid_of}
-use Rattle.sheet.specs.declared.Laid.TheVariants.{Refused}
-use Rattle.sheet.proofs.Room.{laid_number}
+use Rattle.sheet.specs.Laid.{laid_of, list_from}
+use Rattle.sheet.proofs.Room.{laid_counts, laid_number}
+use Rattle.sheet.proofs.Grounds.{list_offices, sectioned}
 use Rattle.catalogue.specs.Handed.{handed}
 
 -- bytes as they are, by the words that stand in them
@@ -53,11 +57,13 @@ module _ (m : Map) (o : Offices) (q k d : ℕ) (answer working counts : List ℕ
   pub host_badly_laid : (laid n : ℕ) → laid ≡ suc n → handed (suc n) answer working (counted 0 0 counts) ≡ host_reply_on laid m o q k d answer working counts
   host_badly_laid laid n e = host-early laid n (or_first laid (host_invalid m o q k d answer working counts) n e)
 
-  pub host_invalid_lem : (y : ℕ) → y ≡ host_invalid m o q k d answer working counts → (y ≡ 0 → ⊥) → (c : List ℕ) → c ≡ counted 0 0 counts
-      → handed y answer working c ≡ host_reply_on 0 m o q k d answer working counts
-  host_invalid_lem zero t ne c e = absurd (ne refl)
-  host_invalid_lem (suc y) t ne c e =
-      ap (λ (l : List ℕ). handed (suc y) answer working l) e ∙ host-early 0 y (or_next 0 (host_invalid m o q k d answer working counts) refl ∙ sym t)
+  refused_by : (y : ℕ) → 0 < y → y ≡ host_invalid m o q k d answer working counts → handed y answer working (counted 0 0 counts) ≡ host_reply_on 0 m o q k d answer working counts
+  refused_by zero some t = absurd (omega arith)
+  refused_by (suc y) some t = host-early 0 y (or_next 0 (host_invalid m o q k d answer working counts) refl ∙ sym t)
+
+  pub host_refused_by : (r : Refusal) → number_of r ≡ host_invalid m o q k d answer working counts
+      → handed (number_of r) answer working (counted 0 0 counts) ≡ host_reply_on 0 m o q k d answer working counts
+  host_refused_by r t = refused_by (number_of r) (number_some r) t
 
   -- a question that is valid: what the walk needs, in bytes
   module _ (fine : HostValidOn m o q k d answer working counts) where
@@ -91,33 +97,33 @@ module _ (m : Map) (o : Offices) (q k d : ℕ) (answer working counts : List ℕ
       zeroed : w' ≡ written long_bytes (cleared (slot_words * o.count) (longs_held working)) working
       zeroed = W ∙ ap (λ (i : ℕ). cleared (long_bytes * (slot_words * i)) working) same ∙ sym (longs_cleared (slot_words * o.count) working w host-lent.works)
 
-      pub host-done : (st : State) (total : ℕ) (a' c' : List ℕ) → listing m x k ≡ served st → st.total ≡ total → length st.lines ≡ k
-          → a' ≡ written long_bytes (lines_out st.lines) answer → c' ≡ counted k total counts → handed 0 a' w' c' ≡ host_reply_on 0 m o q k d answer working counts
-      host-done st total a' c' e made size A C =
-          sym (walked ∙ ap (λ r. in_bytes answer working counts (walk_out o.count k (longs_held answer) (longs_held working) r)) e ∙ rw (made, front, ← C, ← zeroed, ← A) refl)
+      pub host-done : (st : State) (total : ℕ) (a' : List ℕ) → listing m x k ≡ served st → st.total ≡ total → length st.lines ≡ k
+          → a' ≡ written long_bytes (lines_out st.lines) answer → handed 0 a' w' (counted k total counts) ≡ host_reply_on 0 m o q k d answer working counts
+      host-done st total a' e made size A =
+          sym (walked ∙ ap (λ r. in_bytes answer working counts (walk_out o.count k (longs_held answer) (longs_held working) r)) e ∙ rw (made, front, ← zeroed, ← A) refl)
         where
           front : written long_bytes (lines_out st.lines ++ drop (line_words * k) (longs_held answer)) answer ≡ written long_bytes (lines_out st.lines) answer
           front = longs_front (line_words * k) (lines_out st.lines) answer a (omega (arith, lines_size st.lines, size)) host-lent.answers
 
-      pub host-refused : (r : ℕ) (a' c' : List ℕ) → listing m x k ≡ refused r → a' ≡ cleared (long_bytes * (line_words * k)) answer → c' ≡ counted 0 0 counts
-          → handed r a' w' c' ≡ host_reply_on 0 m o q k d answer working counts
-      host-refused r a' c' e A C =
+      pub host-refused : (r : ℕ) (a' : List ℕ) → listing m x k ≡ refused r → a' ≡ cleared (long_bytes * (line_words * k)) answer
+          → handed r a' w' (counted 0 0 counts) ≡ host_reply_on 0 m o q k d answer working counts
+      host-refused r a' e A =
           sym (walked ∙ ap (λ r. in_bytes answer working counts (walk_out o.count k (longs_held answer) (longs_held working) r)) e
-          ∙ rw (longs_cleared (line_words * k) answer a host-lent.answers, ← C, ← zeroed, ← A) refl)
+          ∙ rw (longs_cleared (line_words * k) answer a host-lent.answers, ← zeroed, ← A) refl)
 
--- the entry's contract from the reply over the map and the list, for a sheet whose layout has nothing due
+-- the entry's contract
 module _ (s : List ℕ) (q k d : ℕ) (answer working counts : List ℕ) where
-  pub laid_host : (o : Offices) → layout s ≡ 0 → o ≡ offices_of s → (h : HostReply) → h ≡ host_reply_on 0 (map_of s) o q k d answer working counts
-      → h ≡ host_reply s q k d answer working counts
+  -- over the map and the list of a sheet that its layout passes
+  pub laid_host : (g l : List ℕ) (c : Counts) → served c ≡ laid_of s → g ≡ s → l ≡ drop (list_from c) s
+      → host_reply_on 0 (map_of g) (offices_in l) q k d answer working counts ≡ host_reply s q k d answer working counts
   unfolding host_reply
-  laid_host o e same h r =
-      r ∙ ap (λ (p : Offices). host_reply_on 0 (map_of s) p q k d answer working counts) same ∙ ap (λ (n : ℕ). host_reply_on n (map_of s) (offices_of s) q k d answer working counts) (sym e)
+  laid_host g l c h p f = let (e, n) = laid_counts s c h in rw (p, f, list_offices s c (sectioned s c e n), e)
 
-  pub refused_host : (r : ℕ) (c : List ℕ) → Bytes answer → Bytes working → Refused r ≡ laid_of s → c ≡ counted 0 0 counts → handed r answer working c ≡ host_reply s q k d answer working counts
+  pub refused_host : (r : ℕ) → Bytes answer → Bytes working → refused r ≡ laid_of s → handed r answer working (counted 0 0 counts) ≡ host_reply s q k d answer working counts
   unfolding host_reply
-  refused_host r c a w e h =
+  refused_host r a w e =
       let (n, same, number) = laid_number s r e in
-      rw (h, same) (host_badly_laid (map_of s) (offices_of s) q k d answer working counts a w (layout s) n number)
+      rw same (host_badly_laid (map_of s) (offices_of s) q k d answer working counts a w (layout s) n number)
 
   -- the three clauses
   abbrev pub Promised : HostReply → Type 0

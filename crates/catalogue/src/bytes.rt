@@ -1,28 +1,18 @@
 // Words written into the host's bytes, low byte first.
 ghost use Rattle.std.specs.Prelude.{◌≡◌, List, ℕ, ◌+◌, ◌*◌, ◌≤◌, ◌<◌, length, take};
 ghost use Rattle.paper.specs.Sizes.{word_bytes, long_bytes, most_places};
-ghost use Rattle.paper.specs.Slice.{cleared};
 ghost use Rattle.paper.specs.Words.{bytes_of, written};
 ghost use Rattle.text.specs.Put.{Put};
 ghost use Rattle.truth.specs.Table.{StoredIn};
 
 use paper::sizes::{LONG_BYTES, WORD_BYTES};
 
-// How many numbers there are of 32 bits: a word of 64 bits has two such halves.
-const HALF: u64 = 4_294_967_296;
-
 // The four bytes of x, from byte `at` on.
 pub fn put_word(bytes: &mut [u8], at: usize, x: u32)
     requires { at + word_bytes ≤ length bytes.old }
     ensures { Put at (bytes_of word_bytes x) bytes.old bytes.new }
 {
-    let second = x / 256;
-    let third = second / 256;
-    let fourth = third / 256;
-    bytes[at] = (x % 256) as u8;
-    bytes[at + 1] = (second % 256) as u8;
-    bytes[at + 2] = (third % 256) as u8;
-    bytes[at + 3] = (fourth % 256) as u8;
+    bytes[at..at + WORD_BYTES].copy_from_slice(&x.to_le_bytes());
 }
 
 // The eight bytes of x, from byte `at` on.
@@ -30,8 +20,7 @@ pub fn put_long(bytes: &mut [u8], at: usize, x: u64)
     requires { at + long_bytes ≤ length bytes.old }
     ensures { Put at (bytes_of long_bytes x) bytes.old bytes.new }
 {
-    put_word(bytes, at, (x % HALF) as u32);
-    put_word(bytes, at + WORD_BYTES, (x / HALF) as u32);
+    bytes[at..at + LONG_BYTES].copy_from_slice(&x.to_le_bytes());
 }
 
 // The first n words of 64 bits.
@@ -39,8 +28,8 @@ pub fn put_longs(bytes: &mut [u8], words: &[u64], n: usize)
     requires { (n ≤ length words.now) × (long_bytes * n ≤ length bytes.old) }
     ensures { bytes.new ≡ written long_bytes (take n words.now) bytes.old }
 {
-    for i in 0..n {
-        put_long(bytes, LONG_BYTES * i, words[i]);
+    for (i, &word) in words[..n].iter().enumerate() {
+        put_long(bytes, LONG_BYTES * i, word);
     }
 }
 
@@ -51,15 +40,5 @@ pub fn store_column(bytes: &mut [u8], n: usize, v: usize, column: &[u32])
 {
     for u in 0..n {
         put_word(bytes, WORD_BYTES * (u * n + v), column[u]);
-    }
-}
-
-// The first n bytes become 0.
-pub fn clear(bytes: &mut [u8], n: usize)
-    requires { n ≤ length bytes.old }
-    ensures { bytes.new ≡ cleared n bytes.old }
-{
-    for i in 0..n {
-        bytes[i] = 0;
     }
 }

@@ -7,4 +7,4 @@ pub returns-in-Ok-clause-truth : goal.returns-in-Ok-clause-truth
 returns-in-Ok-clause-truth c long = host_checked_truth (laid_out _ (λ i p. (c.type_inv.sheet i).fits)) long c.in-Ok.ensures
 
 pub returns-in-Err-clause-truth : goal.returns-in-Err-clause-truth
-returns-in-Err-clause-truth c long = rw c.into.ensures (host_checked_truth (laid_out _ (λ i p. (c.type_inv.sheet i).fits)) long c.in-Err.ensures)
+returns-in-Err-clause-truth c long = rw c.from.ensures (host_checked_truth (laid_out _ (λ i p. (c.type_inv.sheet i).fits)) long c.in-Err.ensures)

@@ -1,77 +1,78 @@
 -- `catalogue::answer::ask` meets its contract.
 use native.Mathlib.Omega.{arith}
-use mathlib.Core.Path.{◌≡◌, sym, subst, ◌∙◌}
+use mathlib.Core.Path.{sym, ◌∙◌}
+use Rattle.std.proofs.Common.{rules}
+use Rattle.std.proofs.lemmas.List.{length-take-le}
+use Rattle.std.proofs.lemmas.Result.{err_from_is_err_and}
 use Rattle.paper.specs.Layout.{Bytes}
 use Rattle.paper.specs.Sheet.{map_of, offices_in}
 use Rattle.paper.specs.Quest.{directed}
-use Rattle.paper.specs.Listing.{listing}
-use Rattle.paper.specs.Host.{host_invalid, HostValidOn}
+use Rattle.paper.specs.Host.{HostValidOn}
 use Rattle.paper.proofs.Cleared.{cleared-same}
 use Rattle.paper.proofs.Fair.{listing_count}
 use Rattle.sheet.proofs.Grounds.{roll_count}
-use Rattle.nearest.specs.declared.walk.Walked.{Walked}
-use Rattle.catalogue.specs.Handed.{CameOut}
-use Rattle.catalogue.proofs.Replied.{Lent, host-lent, host_invalid_lem, host-done, host-refused}
-use Rattle.catalogue.proofs.answer.ask.Goals.{After-invalid-number, After-list_lines-ended, Else-number-ne0}
+use Rattle.paper.proofs.Cleared.{filled}
+use Rattle.catalogue.proofs.Replied.{Lent, host-lent, host_refused_by, host-done, host-refused}
+use Rattle.catalogue.proofs.answer.ask.Goals.{In_ok-invalid}
 use Rattle.catalogue.proofs.answer.ask.Goals as goal
 
 -- the bytes that are lent
-answers : (c : After-invalid-number) → Bytes c.args.answer.now
-answers c i p = omega (arith, c.slice_known-1.given i)
+answers : (c : In_ok-invalid) → Bytes c.args.answer.now
+answers c i p = search rules
 
-works : (c : After-invalid-number) → Bytes c.args.working.now
-works c i p = omega (arith, c.slice_known-2-1.given i)
-
--- what the test of 7, 8 and 9 comes to
-tested : (c : After-invalid-number) → let a = c.args in
-    c.invalid-number.result ≡ host_invalid (map_of a.ground.now) (offices_in a.list.now) a.q a.k a.direction a.answer.now a.working.now a.counts.now
-tested c = c.invalid-number.ensures _ _ (sym c.requires.mapped.parts.places) (sym (roll_count c.requires.roll))
+works : (c : In_ok-invalid) → Bytes c.args.working.now
+works c i p = search rules
 
 -- a question that is valid: what the walk needs
-valid : (c : Else-number-ne0) → let a = c.args in
-    HostValidOn (map_of a.ground.now) (offices_in a.list.now) a.q a.k a.direction a.answer.now a.working.now a.counts.now
-valid c = sym ((c.invalid-number.ensures _ _ (sym c.requires.mapped.parts.places) (sym (roll_count c.requires.roll)))) ∙ c.if-number-ne0.false
+valid : (c : In_ok-invalid) → let a = c.args in
+    HostValidOn (map_of a.sheet.now.map.bytes.now) (offices_in a.sheet.now.list.now) a.q a.k a.direction a.answer.now a.working.now a.counts.now
+valid c = let s = c.args.sheet.now in sym (c.in_ok-invalid.ensures _ _ (sym s.map.keeps.parts.places) (sym (roll_count s.roll)))
 
 -- what is lent to a valid question
-lent : (c : Else-number-ne0) → let a = c.args in (answers : Bytes a.answer.now) (works : Bytes a.working.now)
-    → Lent (map_of a.ground.now) (offices_in a.list.now) a.q a.k a.direction a.answer.now a.working.now a.counts.now answers works (valid c)
-lent c answers works = host-lent _ _ _ _ _ _ _ _ answers works (valid c)
+lent : (c : In_ok-invalid) → let a = c.args in
+    Lent (map_of a.sheet.now.map.bytes.now) (offices_in a.sheet.now.list.now) a.q a.k a.direction a.answer.now a.working.now a.counts.now (answers c) (works c) (valid c)
+lent c = host-lent _ _ _ _ _ _ _ _ (answers c) (works c) (valid c)
 
--- how the walk ended, by what the match sees
-ended : (c : After-list_lines-ended) (r : Walked) → c.list_lines-ended.result ≡ r → let a = c.args in
-    CameOut a.k (listing (map_of a.ground.now) (directed (offices_in a.list.now) a.q a.direction) a.k) a.answer.now c.list_lines-ended.new.answer r
-ended c r e =
-    let a = c.args in
-    subst (CameOut a.k (listing (map_of a.ground.now) (directed (offices_in a.list.now) a.q a.direction) a.k) a.answer.now c.list_lines-ended.new.answer) e c.list_lines-ended.ensures
+pub returns-in_err-invalid : goal.returns-in_err-invalid
+returns-in_err-invalid c =
+    let p = err_from_is_err_and c.from_residual.result c.from_residual.ensures.1 in
+    let s = c.args.sheet.now in
+    rw (p.1, p.2) (host_refused_by _ _ _ _ _ _ _ _ (λ i p. search rules) (λ i p. search rules) _ (c.in_err-invalid.ensures _ _ (sym s.map.keeps.parts.places) (sym (roll_count s.roll))))
 
-pub invalid-number-requires : goal.invalid-number-requires
-invalid-number-requires c = c.requires.roll.few
+pub list_lines-walked-requires : goal.list_lines-walked-requires
+list_lines-walked-requires c =
+    let s = c.args.sheet.now in
+    let L = lent (goal.at.list_lines-walked-requires c).In_ok-invalid in
+    (omega (arith, L.place, s.map.keeps.parts.places), L.one, omega (arith, L.enough, roll_count s.roll), L.answers)
 
-pub returns-then-number-ne0 : goal.returns-then-number-ne0
-returns-then-number-ne0 c = host_invalid_lem _ _ _ _ _ _ _ _ (answers (goal.at.returns-then-number-ne0 c).After-invalid-number) (works (goal.at.returns-then-number-ne0 c).After-invalid-number) _ (tested (goal.at.returns-then-number-ne0 c).After-invalid-number) c.if-number-ne0.true _ c.put_counts.ensures
+pub slice_bounds-fill-end : goal.slice_bounds-fill-end
+slice_bounds-fill-end c = omega (arith, (lent (goal.at.slice_bounds-fill-end c).In_ok-invalid).works, roll_count c.args.sheet.now.roll)
 
-pub list_lines-ended-requires : goal.list_lines-ended-requires
-list_lines-ended-requires c = let L = lent (goal.at.list_lines-ended-requires c).Else-number-ne0 (answers (goal.at.list_lines-ended-requires c).After-invalid-number) (works (goal.at.list_lines-ended-requires c).After-invalid-number) in record { mapped = c.requires.mapped; roll = (c.requires.roll, omega (arith, L.place, c.requires.mapped.parts.places), L.one, omega (arith, L.enough, roll_count c.requires.roll), L.answers) }
+pub slice_bounds-fill-end-2 : goal.slice_bounds-fill-end-2
+slice_bounds-fill-end-2 c = sym (length-take-le _ _ (omega (arith, (lent (goal.at.slice_bounds-fill-end-2 c).In_ok-invalid).works, roll_count c.args.sheet.now.roll)))
 
-pub overflow_mul-found : goal.overflow_mul-found
-overflow_mul-found c = omega (arith, c.requires.roll.few)
+pub slice_bounds-fill-end-in-Err : goal.slice_bounds-fill-end-in-Err
+slice_bounds-fill-end-in-Err c = omega (arith, (lent (goal.at.slice_bounds-fill-end-in-Err c).In_ok-invalid).answers, c.in-Err.ensures.1.long)
 
-pub overflow_mul-found-2 : goal.overflow_mul-found-2
-overflow_mul-found-2 c = omega (arith, c.requires.roll.few)
+pub slice_bounds-fill-end-in-Err-2 : goal.slice_bounds-fill-end-in-Err-2
+slice_bounds-fill-end-in-Err-2 c = sym (length-take-le _ _ (omega (arith, (lent (goal.at.slice_bounds-fill-end-in-Err-2 c).In_ok-invalid).answers, c.in-Err.ensures.1.long)))
 
-pub clear-requires : goal.clear-requires
-clear-requires c = omega (arith, (lent (goal.at.clear-requires c).Else-number-ne0 (answers (goal.at.clear-requires c).After-invalid-number) (works (goal.at.clear-requires c).After-invalid-number)).works, roll_count c.requires.roll)
+pub returns-in-Ok : goal.returns-in-Ok
+returns-in-Ok c =
+    let at = (goal.at.returns-in-Ok c).In_ok-invalid in
+    let s = c.args.sheet.now in
+    let L = lent at in
+    let E = c.in-Ok.ensures in
+    let zero = filled _ _ _ (omega (arith, L.works, roll_count s.roll)) (c.fill.ensures.after (λ y e. e)) in
+    let size = listing_count (map_of s.map.bytes.now) (directed (offices_in s.list.now) c.args.q c.args.direction) c.args.k L.enough E.state E.ended in
+    host-done _ _ _ _ _ _ _ _ (answers at) (works at) (valid at) _ (roll_count s.roll) _ zero E.state _ _ E.ended E.made size E.bytes
 
-pub clear-requires-in-Refused : goal.clear-requires-in-Refused
-clear-requires-in-Refused c = omega (arith, (lent (goal.at.clear-requires-in-Refused c).Else-number-ne0 (answers (goal.at.clear-requires-in-Refused c).After-invalid-number) (works (goal.at.clear-requires-in-Refused c).After-invalid-number)).answers, (ended (goal.at.clear-requires-in-Refused c).After-list_lines-ended _ c.in-Refused.is).1.long)
-
-pub returns-in-Done : goal.returns-in-Done
-returns-in-Done c =
-    let E = ended (goal.at.returns-in-Done c).After-list_lines-ended _ c.in-Done.is in
-    let size = listing_count (map_of c.args.ground.now) (directed (offices_in c.args.list.now) c.args.q c.args.direction) c.args.k (lent (goal.at.returns-in-Done c).Else-number-ne0 (answers (goal.at.returns-in-Done c).After-invalid-number) (works (goal.at.returns-in-Done c).After-invalid-number)).enough E.state E.ended in
-    host-done _ _ _ _ _ _ _ _ (answers (goal.at.returns-in-Done c).After-invalid-number) (works (goal.at.returns-in-Done c).After-invalid-number) (valid (goal.at.returns-in-Done c).Else-number-ne0) _ (roll_count c.requires.roll) _ c.clear.ensures E.state _ _ _ E.ended E.made size E.bytes c.put_counts-in-Done.ensures
-
-pub returns-in-Refused : goal.returns-in-Refused
-returns-in-Refused c =
-    let E = ended (goal.at.returns-in-Refused c).After-list_lines-ended _ c.in-Refused.is in
-    host-refused _ _ _ _ _ _ _ _ (answers (goal.at.returns-in-Refused c).After-invalid-number) (works (goal.at.returns-in-Refused c).After-invalid-number) (valid (goal.at.returns-in-Refused c).Else-number-ne0) _ (roll_count c.requires.roll) _ c.clear.ensures _ _ _ E.0 (c.clear-in-Refused.ensures ∙ cleared-same _ _ _ E.1.long E.1.rest) c.put_counts-in-Refused.ensures
+pub returns-in-Err : goal.returns-in-Err
+returns-in-Err c =
+    let at = (goal.at.returns-in-Err c).In_ok-invalid in
+    let s = c.args.sheet.now in
+    let L = lent at in
+    let (ended, P) = c.in-Err.ensures in
+    let zero = filled _ _ _ (omega (arith, L.works, roll_count s.roll)) (c.fill.ensures.after (λ y e. e)) in
+    let none = filled _ _ _ (omega (arith, L.answers, P.long)) (c.fill-in-Err.ensures.after (λ y e. e)) in
+    host-refused _ _ _ _ _ _ _ _ (answers at) (works at) (valid at) _ (roll_count s.roll) _ zero _ _ ended (none ∙ cleared-same _ _ _ P.long P.rest)

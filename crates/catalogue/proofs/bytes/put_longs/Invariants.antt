@@ -1,5 +1,4 @@
 -- `catalogue::bytes::put_longs` meets its contract. The invariant: the first i words are written.
-use Prim.Native.Nat.{◌-◌, ◌≤◌}
 use mathlib.Core.Path.{◌≡◌}
 use lib.ListN.{take}
 use Rattle.paper.specs.Sizes.{long_bytes}
@@ -7,7 +6,4 @@ use Rattle.paper.specs.Words.{written}
 use Rattle.catalogue.proofs.bytes.put_longs.Given as goal
 
 abbrev pub invariant-loop-i : goal.invariant-loop-i
-invariant-loop-i l = (l.i ≤ l.n) × (l.bytes ≡ written long_bytes (take l.i l.words) l.initial.bytes)
-
-abbrev pub decreases-loop-i : goal.decreases-loop-i
-decreases-loop-i l = l.n - l.i
+invariant-loop-i l = l.bytes ≡ written long_bytes (take l.i l.word-items) l.initial.bytes
