@@ -27,17 +27,11 @@ const WORKING: usize = SLOT_WORDS * PROGRAM_OFFICES;
 fn unfit(input: &[u8]) -> Result<(), Refusal>
     ensures { number result ≡ unfitOf input.now }
 {
-    if input.len() < ASKED_BYTES {
-        return Err(Refusal::TooLarge);
-    }
-    if ASKED_BYTES + PROGRAM_BYTES < input.len() {
+    if input.len() < ASKED_BYTES || ASKED_BYTES + PROGRAM_BYTES < input.len() {
         return Err(Refusal::TooLarge);
     }
     let counts = layout(&input[ASKED_BYTES..])?.map.counts;
-    if PROGRAM_PLACES < counts.places {
-        return Err(Refusal::TooLarge);
-    }
-    if PROGRAM_OFFICES < counts.offices {
+    if PROGRAM_PLACES < counts.places || PROGRAM_OFFICES < counts.offices {
         return Err(Refusal::TooLarge);
     }
     Ok(())
