@@ -1,14 +1,13 @@
 -- `desk::serve::pass` meets its contract.
 use Prim.Native.Nat.{◌≤◌}
-use mathlib.Core.Path.{◌≡◌, sym, subst}
+use mathlib.Core.Path.{sym, subst}
 use mathlib.Core.List.{List}
 use lib.ListN.{length}
 use Prim.Native.Nat.{ℕ}
-use Rattle.std.proofs.Common.{Result, Ok, Err, IfOk, IfErr}
 use Rattle.std.proofs.lemmas.Result.{err_from_is_err_and}
 use Rattle.paper.specs.Sizes.{asked_bytes}
-use Rattle.paper.specs.Refusal.{number_of, number}
-use Rattle.paper.specs.Printed.{unfit as unfitOf, sheet_in}
+use Rattle.paper.specs.Refusal.{number}
+use Rattle.paper.specs.Printed.{sheet_in}
 use Rattle.desk.specs.Serve.{Judged}
 use Rattle.desk.proofs.Unfit.{fit, sheet_part}
 use Rattle.desk.proofs.Served.{refused_unfit, judged_true, judged_untrue}
