@@ -58,18 +58,18 @@ number_some NoBlockOnWay e = omega arith
 number_some EmptyInterval e = omega arith
 number_some TooLarge e = omega arith
 
-refused_early : (input : List ℕ) (n : ℕ) → n ≡ unfit input → (n ≡ 0 → ⊥) → Printed input (refusal_text n)
+pub refused_early : (input : List ℕ) (n : ℕ) → n ≡ unfit input → (n ≡ 0 → ⊥) → Printed input (refusal_text n)
 refused_early input zero e ne = absurd (ne refl)
 refused_early input (suc n) e ne = misfit (sym e)
 
 pub refused_unfit : (input : List ℕ) (r : Refusal) → number_of r ≡ unfit input → Printed input (refusal_text (number_of r))
 refused_unfit input r e = refused_early input (number_of r) e (number_some r)
 
-refused_by : (input : List ℕ) (n : ℕ) → unfit input ≡ 0 → Judged (sheet_in input) n → (n ≡ 0 → ⊥) → Printed input (refusal_text n)
-refused_by input zero e J ne = absurd (ne refl)
-refused_by input (suc n) e J ne = unproven e J.checked
+pub refused_untrue : (input : List ℕ) (n : ℕ) → unfit input ≡ 0 → Judged (sheet_in input) n → (n ≡ 0 → ⊥) → Printed input (refusal_text n)
+refused_untrue input zero e J ne = absurd (ne refl)
+refused_untrue input (suc n) e J ne = unproven e J.checked
 
--- what the check gives of an input that is fit
+-- what the check says of the sheet of an input that passes the tests
 pub judged_true : (input : List ℕ) (r : Result (Unit {0}) Refusal) → unfit input ≡ 0 → Judged (sheet_in input) (number r)
     → IfOk r (λ _. (unfit input ≡ 0) × Judged (sheet_in input) 0)
 judged_true input (Ok a) e J = (e, J)
@@ -78,7 +78,7 @@ judged_true input (Err r) e J = tt
 pub judged_untrue : (input : List ℕ) (r : Result (Unit {0}) Refusal) → unfit input ≡ 0 → Judged (sheet_in input) (number r)
     → IfErr r (λ x. Printed input (refusal_text (number_of x)))
 judged_untrue input (Ok a) e J = tt
-judged_untrue input (Err r) e J = refused_by input (number_of r) e J (number_some r)
+judged_untrue input (Err r) e J = refused_untrue input (number_of r) e J (number_some r)
 
 pub replied_true : (input : List ℕ) → unfit input ≡ 0 → Judged (sheet_in input) 0 → Printed input (reply_text (program_reply input))
 replied_true input e J = asked {table = J.table} e J.checked
