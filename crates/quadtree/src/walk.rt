@@ -26,6 +26,7 @@ fn tested(t: Trail) -> Result<Trail, Refusal>
 }
 
 // The trail from u to v before any refinement.
+#[tactic(auto, using(crate::proofs::Steps::start_refused, std::proofs::lemmas::Result::err_from_is_err_and))]
 pub fn start(ground: &Ground, u: usize, v: usize) -> Result<Trail, Refusal>
     requires { (u < ground.now.counts.places) × (v < ground.now.counts.places) }
     ensures { served_as trail_of result ≡ start_of (map_of ground.now.bytes.now) u v }
@@ -66,6 +67,7 @@ fn onward(t: Trail, via: usize, length: Network, ends: Ends) -> Trail
 }
 
 // The trail towards v, whose code is given, after a stage of the length to the place `via`.
+#[tactic(auto, using(crate::proofs::Steps::walked_refused, std::proofs::lemmas::Result::err_from_is_err_and))]
 fn walked_to(
     ground: &Ground,
     v: usize,

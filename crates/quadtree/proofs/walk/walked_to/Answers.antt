@@ -1,16 +1,12 @@
 -- `quadtree::walk::walked_to` meets its contract. What is added up is within its bounds, so nothing wraps.
 use mathlib.Core.Path.{ap, ◌∙◌}
 use native.Mathlib.Omega.{arith}
-use Rattle.std.proofs.lemmas.Result.{err_from_is_err_and}
 use Rattle.paper.specs.Trail.{tested}
 use Rattle.paper.proofs.Bounds.{sums}
 use Rattle.quadtree.proofs.Words.{standing, rules}
-use Rattle.quadtree.proofs.Steps.{walked_ends, walked_refused}
+use Rattle.quadtree.proofs.Steps.{walked_ends}
 use Rattle.quadtree.proofs.Sizes.{ends_within}
 use Rattle.quadtree.proofs.walk.walked_to.Goals as goal
-
-pub returns-in_err-next : goal.returns-in_err-next
-returns-in_err-next c = let p = err_from_is_err_and c.from_residual.result c.from_residual.ensures.1 in rw (p.1, p.2) (walked_refused _ _ _ _ _ _ c.in_err-next.ensures)
 
 pub onward-requires : goal.onward-requires
 onward-requires c =
