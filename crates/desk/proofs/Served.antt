@@ -16,12 +16,12 @@ use Rattle.paper.specs.Listing.{State, listing}
 use Rattle.paper.specs.Test.{or_else}
 use Rattle.paper.specs.Reply.{Reply, invalid, walk_out, reply_by, reply_on, reply}
 use Rattle.paper.specs.Printed.{refusal_text, reply_text, unfit, sheet_in, lent_answer, lent_working, program_reply, Printed, misfit, unproven, replied as asked}
+use Rattle.paper.proofs.Numbers.{number_some}
 use Rattle.paper.proofs.Test.{or_right}
 use Rattle.paper.proofs.Reply.{Allowed, valid}
 use Rattle.paper.specs.Refusal.{number_of, number}
 use Rattle.paper.specs.declared.Listed.{Listed}
 use Rattle.paper.specs.declared.refusal.Refusal.{Refusal}
-use Rattle.paper.specs.declared.refusal.Refusal.TheVariants.{NotWhole, BadCount, BadPlaces, BadStages, BadBlocks, BadOffices, BadQuestion, BadK, SliceShort, TableShort, CutOff, NoBlock, WrongColour, WrongRatio, UselessBlock, TooManyStages, NoBlockOnWay, EmptyInterval, TooLarge}
 use Rattle.nearest.specs.Question.{replied}
 use Rattle.text.specs.Put.{Written, count_of, reply_of}
 use Rattle.text.proofs.Reply.{reply_refused}
@@ -36,34 +36,12 @@ serves_by {input} {text} {before} {after} {r} W P = record {
   rest = written_rest W;
 }
 
--- no refusal has the number 0
-number_some : (r : Refusal) → number_of r ≡ 0 → ⊥
-number_some NotWhole e = omega arith
-number_some BadCount e = omega arith
-number_some BadPlaces e = omega arith
-number_some BadStages e = omega arith
-number_some BadBlocks e = omega arith
-number_some BadOffices e = omega arith
-number_some BadQuestion e = omega arith
-number_some BadK e = omega arith
-number_some SliceShort e = omega arith
-number_some TableShort e = omega arith
-number_some CutOff e = omega arith
-number_some NoBlock e = omega arith
-number_some WrongColour e = omega arith
-number_some WrongRatio e = omega arith
-number_some UselessBlock e = omega arith
-number_some TooManyStages e = omega arith
-number_some NoBlockOnWay e = omega arith
-number_some EmptyInterval e = omega arith
-number_some TooLarge e = omega arith
-
 pub refused_early : (input : List ℕ) (n : ℕ) → n ≡ unfit input → (n ≡ 0 → ⊥) → Printed input (refusal_text n)
 refused_early input zero e ne = absurd (ne refl)
 refused_early input (suc n) e ne = misfit (sym e)
 
 pub refused_unfit : (input : List ℕ) (r : Refusal) → number_of r ≡ unfit input → Printed input (refusal_text (number_of r))
-refused_unfit input r e = refused_early input (number_of r) e (number_some r)
+refused_unfit input r e = refused_early input (number_of r) e (λ e. omega (arith, number_some r, e))
 
 pub refused_untrue : (input : List ℕ) (n : ℕ) → unfit input ≡ 0 → Judged (sheet_in input) n → (n ≡ 0 → ⊥) → Printed input (refusal_text n)
 refused_untrue input zero e J ne = absurd (ne refl)
@@ -78,7 +56,7 @@ judged_true input (Err r) e J = tt
 pub judged_untrue : (input : List ℕ) (r : Result (Unit {0}) Refusal) → unfit input ≡ 0 → Judged (sheet_in input) (number r)
     → IfErr r (λ x. Printed input (refusal_text (number_of x)))
 judged_untrue input (Ok a) e J = tt
-judged_untrue input (Err r) e J = refused_untrue input (number_of r) e J (number_some r)
+judged_untrue input (Err r) e J = refused_untrue input (number_of r) e J (λ e. omega (arith, number_some r, e))
 
 pub replied_true : (input : List ℕ) → unfit input ≡ 0 → Judged (sheet_in input) 0 → Printed input (reply_text (program_reply input))
 replied_true input e J = asked {table = J.table} e J.checked
@@ -128,4 +106,4 @@ count_same (Err r) a w = refl
 pub written_as : (r : Result Listed Refusal) (a w : List ℕ) {u v : List ℕ} {n : ℕ} → IfOk (as_number r) (λ l. (x : List ℕ) → Written 0 (reply_text (reply_of 0 l.count l.refinements a x)) u v n)
     → IfErr (as_number r) (λ k. Written 0 (refusal_text k) u v n) → Written 0 (reply_text (replied r a w)) u v n
 written_as (Ok l) a w p q = p w
-written_as (Err r) a w p q = rw (reply_refused (number_of r) 0 0 a w (number_some r)) q
+written_as (Err r) a w p q = rw (reply_refused (number_of r) 0 0 a w (λ e. omega (arith, number_some r, e))) q

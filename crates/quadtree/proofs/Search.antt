@@ -2,7 +2,7 @@
 use Prim.Native.Nat.{ℕ, ◌+◌, ◌-◌, ◌/◌, ◌^◌, ◌≤◌, ◌<◌}
 use native.Mathlib.Omega.{arith}
 use native.Mathlib.Decide.{dec_lt}
-use mathlib.Core.Path.{◌≡◌, refl, ap, sym}
+use mathlib.Core.Path.{◌≡◌, refl, ap, sym, ◌∙◌}
 use mathlib.Core.Bool.{Bool, true, false}
 use lib.Dec.{leb, ltb, eqb}
 use native.Mathlib.Nat.{one-le-pow}
@@ -14,10 +14,10 @@ use Rattle.paper.specs.Cell.{cell}
 use Rattle.paper.specs.Block.{covers}
 use Rattle.paper.proofs.LaidOut.{Grounded}
 use Rattle.cells.proofs.Codes.{code_lt}
-use Rattle.paper.proofs.Test.{both_left, both_right, both_false_left, both_false_right}
+use Rattle.paper.proofs.Test.{true_false, both_left, both_right, both_false_left, both_false_right}
 use Rattle.paper.proofs.Block.{block_is, block_none_of}
-use Rattle.std.specs.Prelude.{Some, None}
-use Rattle.quadtree.specs.Blocks.{key_of, key_at, Last, covers_code, cover_of, CoverIs}
+use Rattle.std.specs.Prelude.{Option, Some, None}
+use Rattle.quadtree.specs.Blocks.{Found, key_of, key_at, Last, covers_code, cover_of, CoverIs}
 
 -- the code of every place is one of the grid's
 pub cell_lt : (m : Map) (v k : ℕ) → k ≡ cell m v → k < 4 ^ top_level
@@ -94,6 +94,24 @@ module _ {m : Map} (G : Grounded m) where
       go : (i : ℕ) → i < m.blocks → Dec (last + span / 2 < i) → last + (span - span / 2) ≤ i → k < key_at m i
       go i r (yes l) q = omega (arith, key_rises (last + span / 2) i l r)
       go i r (no l) q = let e : i ≡ last + span / 2 = omega arith in rw e p
+
+  -- no two answers for a code
+  pub cover_one : (u code : ℕ) (r r' : Option ℕ) → Found m u code r → Found m u code r' → r ≡ r'
+  cover_one u code (Some b) (Some c) (p, t) (p', t') = ap Some (same (dec_lt b c) (dec_lt c b))
+    where
+      B : Within m u code b
+      B = within m u code b t
+
+      C : Within m u code c
+      C = within m u code c t'
+
+      same : Dec (b < c) → Dec (c < b) → b ≡ c
+      same (yes l) q = absurd (omega (arith, G.parted b c l p' (B.owner ∙ sym C.owner), B.to, C.from))
+      same (no l) (yes q) = absurd (omega (arith, G.parted c b q p (C.owner ∙ sym B.owner), C.to, B.from))
+      same (no l) (no q) = omega arith
+  cover_one u code (Some b) None (p, t) none-does = true_false t (none-does b p)
+  cover_one u code None (Some c) none-does (p, t) = true_false t (none-does c p)
+  cover_one u code None None f g = refl
 
   module _ (u code r : ℕ) (h : code < 4 ^ top_level) (Z : Last m (key_of u code) r) where
     -- no other block covers the code
