@@ -9,9 +9,9 @@ ghost use Rattle.truth.specs.Faults.{found_below};
 ghost use Rattle.truth.specs.Roads.{OnRoads, OnSurvey, Reached};
 ghost use Rattle.truth.specs.Columns.{ColumnIs};
 
+use crate::known::Survey;
 use crate::pairs::{Fault, column_fault};
 use crate::slices::all_marked;
-use crate::known::Survey;
 use crate::table::Table;
 use paper::Refusal;
 use paper::sizes::{MOST_BLOCKS, MOST_PLACES};

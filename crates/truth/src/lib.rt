@@ -2,10 +2,10 @@
 #![tactic(auto)]
 
 pub mod columns;
+mod known;
 pub mod pairs;
 mod slices;
 pub mod table;
-mod known;
 
 ghost use Rattle.std.specs.Prelude.{◌≡◌, ◌↔◌, ◌*◌, ◌≤◌, length, take};
 ghost use Rattle.paper.specs.Refusal.{number};
@@ -15,10 +15,9 @@ ghost use Rattle.sheet.specs.Book.{Roomy};
 ghost use Rattle.truth.specs.Roads.{Surveyed};
 ghost use Rattle.truth.specs.Table.{CheckedIn};
 
-pub use known::Survey;
-
 use crate::columns::columns;
 use crate::table::{Table, Words};
+pub use known::Survey;
 use paper::Refusal;
 use paper::sizes::{MOST_PLACES, MOST_STAGES};
 use roads::{Roads, chain};
@@ -39,7 +38,12 @@ pub fn survey(
     ensures { Surveyed map.now.bytes.now first.new (take map.now.counts.stages tails.new) heads.new lengths.new last.new previous.new (map_of map.now.bytes.now) }
 {
     map.road_book(first, tails, heads, lengths);
-    chain(&heads[..map.counts.stages], map.counts.places, last, previous);
+    chain(
+        &heads[..map.counts.stages],
+        map.counts.places,
+        last,
+        previous,
+    );
 }
 
 // The check of a map that is read off the bytes, with a slice that is long enough: the survey, and then column after column.

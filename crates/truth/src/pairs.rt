@@ -70,13 +70,7 @@ fn colour_holds(chart: &Chart, column: &[u32], u: usize, b: usize) -> bool
 }
 
 // What is due for u and v, where the block b of u covers v: 13, 14, or nothing.
-fn block_fault(
-    chart: &Chart,
-    column: &[u32],
-    u: usize,
-    v: usize,
-    b: usize,
-) -> Result<(), Refusal>
+fn block_fault(chart: &Chart, column: &[u32], u: usize, v: usize, b: usize) -> Result<(), Refusal>
     requires { (u < chart.now.ground.counts.places) × (v < chart.now.ground.counts.places) × (chart.now.ground.counts.places ≤ length column.now) × (Own (map_of chart.now.ground.bytes.now) u b) }
     ensures { (m : Map) → OnChart chart.now m → number result ≡ fault_by m (by_column column.now) u v (some b) }
 {
