@@ -6,6 +6,7 @@ use std::io;
 use std::io::Read;
 
 // Reads until the slice is full or the input ends, and gives how many bytes came. A read that fails ends it: what came before stands in the slice.
+// The library's read_exact does not say how many came where the input is shorter, and its read_to_end needs a heap.
 pub fn fill<R: Read>(reader: &mut R, bytes: &mut [u8]) -> io::Result<usize>
     ensures room { IfOk result (λ n. n ≤ length bytes.new) }
     ensures bytes { IfOk result (λ n. Consumes (R.remaining reader.old) (R.remaining reader.new) (take n bytes.new)) }

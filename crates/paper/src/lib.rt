@@ -60,7 +60,8 @@ pub struct Trail {
     pub stages: usize,
 }
 
-// What a question asks of each office: the road between this place and the office's, in this direction.
+// What a question asks of each office: the road between this place and the office's, in this direction. The direction is a number, since the walk serves
+// every number: OUTWARD is outward, any other inward.
 #[derive(Clone, Copy)]
 pub struct Quest {
     pub place: usize,

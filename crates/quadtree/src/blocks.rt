@@ -24,7 +24,8 @@ fn key_of(ground: &Ground, b: usize) -> u32
     key(block.owner, block.code)
 }
 
-// The last block whose key is at most the key asked for; 0 where there is none. It lies from `last` on, among the next `span` blocks.
+// The last block whose key is at most the key asked for; 0 where there is none. It lies from `last` on, among the next `span` blocks. The records are
+// words of the bytes and no slice that the library's partition_point could search.
 fn last_up_to(ground: &Ground, asked: u32) -> usize
     requires { 1 ≤ ground.now.counts.blocks }
     ensures { Last (map_of ground.now.bytes.now) asked result }

@@ -23,7 +23,8 @@ use paper::sizes::{MOST_PLACES, MOST_STAGES};
 use roads::{Roads, chain};
 use sheet::{Chart, Mapped, layout};
 
-// The road book of a map that is read off the bytes, and the chains of its stages.
+// The road book of a map that is read off the bytes, and the chains of its stages. The slices are those of the caller's arrays, which a `Survey` then
+// borrows: a struct of them to be filled would be taken apart at once.
 pub fn survey(
     map: &Mapped,
     first: &mut [u32],
