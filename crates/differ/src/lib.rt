@@ -39,13 +39,13 @@ fn is_new(words: &[u32], i: usize, kids: &mut [u16]) -> bool
     false
 }
 
-// Whether no two of the first n words are the same.
-pub fn all_differ(words: &[u32], n: usize) -> bool
-    requires { (n ≤ length words.now) × (n ≤ most_places) }
-    ensures { result ≡ apart n (same words.now) }
+// Whether no two of the words are the same.
+pub fn all_differ(words: &[u32]) -> bool
+    requires { length words.now ≤ most_places }
+    ensures { result ≡ apart (length words.now) (same words.now) }
 {
     let mut kids = [0u16; WAYS * MOST_PLACES];
-    for i in 1..n {
+    for i in 1..words.len() {
         if !is_new(words, i, &mut kids) {
             return false;
         }

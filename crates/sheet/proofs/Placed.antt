@@ -1,13 +1,13 @@
 -- The places up to one of them, each with its cell and its gazetteer number; and the rule of the places by these.
-use Prim.Native.Nat.{ℕ, ◌+◌, ◌<◌}
+use Prim.Native.Nat.{ℕ, ◌+◌, ◌≤◌, ◌<◌}
 use native.Mathlib.Omega.{arith}
 use native.Mathlib.Decide.{ℕ_discrete}
 use mathlib.Core.Path.{◌≡◌, refl, sym}
 use mathlib.Core.Bool.{Bool, true, false, not}
 use mathlib.Core.List.{List}
 use lib.Dec.{ltb, eqb}
-use lib.ListN.{length, set}
-use lib.Seq.{get_or-set_same, get_or-set_other}
+use lib.ListN.{length, take, set}
+use lib.Seq.{get_or-set_same, get_or-set_other, get_or-take, length-take-le}
 use borrow.Author.Tests.{ltb-true}
 use Rattle.paper.specs.Sizes.{grid_side}
 use Rattle.paper.specs.Test.{both, every, apart}
@@ -47,17 +47,18 @@ module _ {m : Map} {i : ℕ} {cells numbers : List ℕ} (P : Placed m i cells nu
         | no e ↦ rw (get_or-set_other cells i v n 0 e, get_or-set_other numbers i v g 0 e) (P.taken v (omega arith))
       ]
 
--- what the words of the two slices tell of the rule
-module _ (m : Map) (n : ℕ) (cells numbers : List ℕ) (e : n ≡ m.places) where
+-- what the first n words of the two slices tell of the rule
+module _ (m : Map) (n : ℕ) (cells numbers : List ℕ) (e : n ≡ m.places) (p : n ≤ length cells) (q : n ≤ length numbers) where
   module _ (h : every n (place_holds m) ≡ true) (T : Taken m n cells numbers) where
-    cells-by : apart n (same cells) ≡ apart n (sharing m)
-    cells-by = apart-same n (same cells) (sharing m) (λ i j p q. let J : Kept m j _ _ = T j (omega arith) in let I : Kept m i _ _ = T i p in
-        rw (J.cell, I.cell) (pair_eqb grid_side (m.x j) (m.y j) (m.x i) (m.y i) J.y I.y))
+    cells-by : apart (length (take n cells)) (same (take n cells)) ≡ apart n (sharing m)
+    cells-by = rw (length-take-le n cells p) (apart-same n (same (take n cells)) (sharing m) (λ i j k l. let J : Kept m j _ _ = T j (omega arith) in let I : Kept m i _ _ = T i k in
+        rw (get_or-take n cells j 0 (omega arith), get_or-take n cells i 0 k, J.cell, I.cell) (pair_eqb grid_side (m.x j) (m.y j) (m.x i) (m.y i) J.y I.y)))
 
-    numbers-by : apart n (same numbers) ≡ apart n (sharing_number m)
-    numbers-by = apart-same n (same numbers) (sharing_number m) (λ i j p q. rw ((T j (omega arith)).gazetteer, (T i p).gazetteer))
+    numbers-by : apart (length (take n numbers)) (same (take n numbers)) ≡ apart n (sharing_number m)
+    numbers-by = rw (length-take-le n numbers q) (apart-same n (same (take n numbers)) (sharing_number m) (λ i j k l.
+        rw (get_or-take n numbers j 0 (omega arith), get_or-take n numbers i 0 k, (T j (omega arith)).gazetteer, (T i k).gazetteer)))
 
-    pub places-by : both (apart n (same cells)) (apart n (same numbers)) ≡ places_hold m
+    pub places-by : both (apart (length (take n cells)) (same (take n cells))) (apart (length (take n numbers)) (same (take n numbers))) ≡ places_hold m
     unfolding places_hold
     places-by = rw (cells-by, numbers-by, e, rw e at h)
 

@@ -73,8 +73,5 @@ pub fn places_hold(sheet: &[u8], counts: Counts) -> bool
     if !take_places(sheet, counts, &mut cells, &mut numbers) {
         return false;
     }
-    if !all_differ(&cells, places) {
-        return false;
-    }
-    all_differ(&numbers, places)
+    all_differ(&cells[..places]) && all_differ(&numbers[..places])
 }

@@ -10,7 +10,7 @@ unfolding apart every
 loop-i-init c = (hung_first _, refl)
 
 pub returns-then-not-is_new : goal.returns-then-not-is_new
-returns-then-not-is_new c = sym (apart-fails c.args.words.now _ c.args.n (omega arith) (sym c.is_new.ensures.value ∙ c.if-not-is_new.true))
+returns-then-not-is_new c = sym (apart-fails c.args.words.now _ _ (omega arith) (sym c.is_new.ensures.value ∙ c.if-not-is_new.true))
 
 pub loop-i-preserved : goal.loop-i-preserved
 loop-i-preserved c =
@@ -18,4 +18,4 @@ loop-i-preserved c =
     (c.is_new.ensures.hung_2 e, apart_more c.args.words.now _ c.loop-i.invariant.1 (sym c.is_new.ensures.value ∙ e))
 
 pub returns : goal.returns
-returns c = sym (apart_fewer c.args.words.now c.loop-i.i c.args.n (omega arith) c.loop-i.invariant.1)
+returns c = sym (apart_fewer c.args.words.now c.loop-i.i _ (omega arith) c.loop-i.invariant.1)

@@ -1,10 +1,9 @@
 -- `sheet::places::places_hold` meets its contract: each test of the paper's rule by the function that makes it.
 use mathlib.Core.Path.{◌≡◌, sym, ◌∙◌}
-use mathlib.Core.Bool.{true}
-use mathlib.Core.List.{List}
-use Prim.Native.Nat.{ℕ}
+use Prim.Native.Nat.{ℕ, ◌≤◌}
 use native.Mathlib.Omega.{arith}
-use lib.ListN.{length, length-replicate}
+use lib.ListN.{length, take, length-replicate}
+use lib.Seq.{length-take-le}
 use Rattle.paper.specs.Sizes.{most_places}
 use Rattle.paper.specs.Test.{both, apart}
 use Rattle.paper.specs.Sheet.{map_of}
@@ -17,39 +16,37 @@ use Rattle.sheet.proofs.places.places_hold.Goals.{After-take_places, Else-not-ta
 use Rattle.sheet.proofs.places.places_hold.Goals as goal
 
 -- both slices are as long as there may be places
-module _ (c : After-take_places) where
-  abbrev cells : List ℕ
-  cells = c.take_places.new.cells
-
-  abbrev numbers : List ℕ
-  numbers = c.take_places.new.numbers
-
-  long : (length cells ≡ most_places) × (length numbers ≡ most_places)
-  long = (c.take_places.auto.cells ∙ length-replicate {A = ℕ} most_places 0, c.take_places.auto.numbers ∙ length-replicate {A = ℕ} most_places 0)
+long : (c : After-take_places) → let n = c.args.counts.places in (n ≤ length c.take_places.new.cells) × (n ≤ length c.take_places.new.numbers)
+long c = let W = (room _ _ c.requires).within in let z = length-replicate {A = ℕ} most_places 0 in (omega (arith, W, z, c.take_places.auto.cells), omega (arith, W, z, c.take_places.auto.numbers))
 
 -- what the paper's rule comes to, once each place holds
-by-words : (c : Else-not-take_places) → let s = c.args in let cells = c.take_places.new.cells in let numbers = c.take_places.new.numbers in
-    both (apart s.counts.places (same cells)) (apart s.counts.places (same numbers)) ≡ places_hold (map_of s.sheet.now)
+by-words : (c : Else-not-take_places) → let n = c.args.counts.places in let cells = take n c.take_places.new.cells in let numbers = take n c.take_places.new.numbers in
+    both (apart (length cells) (same cells)) (apart (length numbers) (same numbers)) ≡ places_hold (map_of c.args.sheet.now)
 by-words c =
     let e = c.if-not-take_places.false in
-    places-by _ c.args.counts.places c.take_places.new.cells c.take_places.new.numbers (room _ _ c.requires).places (sym c.take_places.ensures.value ∙ e) (c.take_places.ensures.taken e)
+    let L = long (goal.at.Else-not-take_places c).After-take_places in
+    places-by _ _ _ _ (room _ _ c.requires).places L.0 L.1 (sym c.take_places.ensures.value ∙ e) (c.take_places.ensures.taken e)
 
-pub take_places-requires : goal.take_places-requires
-take_places-requires c = let zeros = length-replicate {A = ℕ} most_places 0 in record { parted = c.requires; places_in_bounds = (omega (arith, zeros, (room _ _ c.requires).within.places), omega (arith, zeros, (room _ _ c.requires).within.places)) }
+pub take_places-requires-clause-places_in_bounds : goal.take_places-requires-clause-places_in_bounds
+take_places-requires-clause-places_in_bounds c = let W = (room _ _ c.requires).within in (omega (arith, W), omega (arith, W))
 
 pub returns-then-not-take_places : goal.returns-then-not-take_places
 returns-then-not-take_places c = places_fail _ c.args.counts.places (room _ _ c.requires).places (sym c.take_places.ensures.value ∙ c.if-not-take_places.true)
 
-pub all_differ-requires : goal.all_differ-requires
-all_differ-requires c = omega (arith, long (goal.at.all_differ-requires c).After-take_places, (room _ _ c.requires).within.places)
+pub slice_bounds-cells-end : goal.slice_bounds-cells-end
+slice_bounds-cells-end c = omega (arith, long (goal.at.slice_bounds-cells-end c).After-take_places)
 
-pub returns-then-not-all_differ : goal.returns-then-not-all_differ
-returns-then-not-all_differ c = sym (both_false_left _ (apart c.args.counts.places (same c.take_places.new.numbers)) (sym c.all_differ.ensures ∙ c.if-not-all_differ.true)) ∙ by-words (goal.at.returns-then-not-all_differ c).Else-not-take_places
+pub slice_bounds-all_differ-end : goal.slice_bounds-all_differ-end
+slice_bounds-all_differ-end c = sym (length-take-le _ _ (omega (arith, long (goal.at.slice_bounds-all_differ-end c).After-take_places)))
 
-pub all_differ-requires-2 : goal.all_differ-requires-2
-all_differ-requires-2 c = omega (arith, long (goal.at.all_differ-requires-2 c).After-take_places, (room _ _ c.requires).within.places)
+pub slice_bounds-numbers-end : goal.slice_bounds-numbers-end
+slice_bounds-numbers-end c = omega (arith, long (goal.at.slice_bounds-numbers-end c).After-take_places)
 
-pub returns : goal.returns
-returns c =
-    let first : apart c.args.counts.places (same c.take_places.new.cells) ≡ true = sym c.all_differ.ensures ∙ c.if-not-all_differ.false in
-    c.all_differ-2.ensures ∙ sym (both_so _ first) ∙ by-words (goal.at.returns c).Else-not-take_places
+pub slice_bounds-all_differ-end-then-all_differ : goal.slice_bounds-all_differ-end-then-all_differ
+slice_bounds-all_differ-end-then-all_differ c = sym (length-take-le _ _ (omega (arith, long (goal.at.slice_bounds-all_differ-end-then-all_differ c).After-take_places)))
+
+pub returns-then-all_differ : goal.returns-then-all_differ
+returns-then-all_differ c = c.all_differ-then-all_differ.ensures ∙ sym (both_so _ (sym c.all_differ.ensures ∙ c.if-all_differ.true)) ∙ by-words (goal.at.returns-then-all_differ c).Else-not-take_places
+
+pub returns-else-all_differ : goal.returns-else-all_differ
+returns-else-all_differ c = let e = c.if-all_differ.false in e ∙ sym (both_false_left _ _ (sym c.all_differ.ensures ∙ e)) ∙ by-words (goal.at.returns-else-all_differ c).Else-not-take_places
