@@ -2,12 +2,12 @@
 use Prim.Native.Nat.{ℕ, ◌+◌, ◌*◌, ◌≤◌, ◌<◌}
 use native.Mathlib.Omega.{arith}
 use native.Mathlib.Decide.{ℕ_discrete, dec_lt}
-use mathlib.Core.Path.{◌≡◌}
+use mathlib.Core.Path.{◌≡◌, ◌∙◌}
 use mathlib.Core.Bool.{true, false}
-use mathlib.Core.List.{List}
+use mathlib.Core.List.{List, ◌++◌}
 use lib.Dec.{ltb}
-use lib.ListN.{length, get_or, take, replicate, length-replicate}
-use lib.Seq.{get_or-take, length-take-le}
+use lib.ListN.{length, get_or, replicate, length-append, length-replicate}
+use Rattle.std.proofs.Math.ListN.{get_or-append}
 use borrow.Author.Tests.{ltb-true, ltb-false}
 use Rattle.std.specs.List.Sorted.{IsPartitionPoint, IsPartitionedBy}
 use Rattle.std.proofs.lemmas.List.Sorted.{IsPartitionedBy-ltb, IsNonDecreasingBy-from_default}
@@ -19,30 +19,20 @@ use Rattle.paper.specs.Sizes.{stage_words, most_places, most_stages}
 use Rattle.paper.specs.Layout.{stages_hold}
 use Rattle.paper.proofs.Laid.{stages_ok}
 use Rattle.paper.proofs.Stages.{Parts, begins}
-use Rattle.sheet.specs.Book.{Leads, Book, Filled, Begins, Ascending, Roomy}
+use Rattle.sheet.specs.Book.{Holds, Leads, Book, Begins, Ascending, Roomy}
 use Rattle.sheet.specs.Laid.{Within}
 
--- what `partition_point` asks of the first n tails, and what it answers
-module _ (tails : List ℕ) (n u : ℕ) (p : n ≤ length tails) where
-  at : (i : ℕ) → i < n → get_or (take n tails) i 0 ≡ get_or tails i 0
-  at i q = get_or-take n tails i 0 q
+-- what `partition_point` asks of tails, and what it answers
+module _ (tails : List ℕ) (u : ℕ) where
+  pub parted_by : Ascending tails (length tails) → IsPartitionedBy (λ t. ltb t u) tails
+  parted_by up = IsPartitionedBy-ltb (λ t. t) _ u (IsNonDecreasingBy-from_default (λ t. t) _ 0 (λ i j q r. elim (ℕ_discrete i j) [ yes e ↦ rw e (omega arith) | no e ↦ up i j (omega arith) r ]))
 
-  pub parted_by : Ascending tails n → IsPartitionedBy (λ t. ltb t u) (take n tails)
-  parted_by up = IsPartitionedBy-ltb (λ t. t) _ u (IsNonDecreasingBy-from_default (λ t. t) _ 0 sorted)
-    where
-      sorted : (i j : ℕ) → i ≤ j → j < length (take n tails) → get_or (take n tails) i 0 ≤ get_or (take n tails) j 0
-      sorted i j q r =
-          let s : j < n = omega (arith, length-take-le n tails p) in
-          elim (ℕ_discrete i j) [ yes e ↦ rw e (omega arith) | no e ↦ omega (arith, at i (omega arith), at j s, up i j (omega arith) s) ]
-
-  pub begins_by : (b : ℕ) → b ≤ length (take n tails) → IsPartitionPoint (λ t. ltb t u ≡ true) (λ t. ltb t u ≡ false) (take n tails) b → Begins tails n u b
-  begins_by b q point =
-      let size : length (take n tails) ≡ n = length-take-le n tails p in
-      record {
-        most = omega arith;
-        low = λ i l. rw (at i (omega arith)) at (ltb-true _ _ (point.0 i 0 (omega arith) l));
-        high = λ i l m. rw (at i m) at (ltb-false _ _ (point.1 i 0 l (omega arith)));
-      }
+  pub begins_by : (b : ℕ) → b ≤ length tails → IsPartitionPoint (λ t. ltb t u ≡ true) (λ t. ltb t u ≡ false) tails b → Begins tails (length tails) u b
+  begins_by b q point = record {
+    most = q;
+    low = λ i l. ltb-true _ _ (point.0 i 0 (omega arith) l);
+    high = λ i l m. ltb-false _ _ (point.1 i 0 l m);
+  }
 
 -- what parts the tails of a map is where the stages begin
 module _ (m : Map) (sorted : (i j : ℕ) → i < j → j < m.stages → m.tail i ≤ m.tail j) (tails : List ℕ) (same : (i : ℕ) → i < m.stages → get_or tails i 0 ≡ m.tail i) where
@@ -63,31 +53,42 @@ module _ (m : Map) (sorted : (i j : ℕ) → i < j → j < m.stages → m.tail i
       go (no p) (yes q) = absurd (omega (arith, B.most, B.low a q, P.high a (omega arith) (omega (arith, B.most)), same a (omega (arith, B.most))))
       go (no p) (no q) = omega arith
 
--- the book of a map that is read off the bytes: n stages, whose first tail stands at word a
-module _ (s : List ℕ) (hold : stages_hold (map_of s) ≡ true) (n a : ℕ) (stages : n ≡ (map_of s).stages) (here : a ≡ stages_at s + 1) where
-  sorted : (i j : ℕ) → i < j → j < (map_of s).stages → (map_of s).tail i ≤ (map_of s).tail j
-  sorted i j p q = ((stages_ok (map_of s) hold).sorted i j p q).le
+-- slices that hold a book hold it with words after
+module _ {n : ℕ} {f : ℕ → ℕ} {l : List ℕ} (more : List ℕ) (H : Holds n f l) where
+  holds_on : Holds n f (l ++ more)
+  holds_on = record { long = omega (arith, H.long, length-append l more); each = λ i p. get_or-append l more 0 i (omega (arith, H.long)) ∙ H.each i p }
 
-  module _ (tails old : List ℕ) (T : Filled n (λ i. word s (a + stage_words * i)) old tails) where
-    same : (i : ℕ) → i < (map_of s).stages → get_or tails i 0 ≡ (map_of s).tail i
+-- the book of a map that is read off the bytes, whose first tail stands at word a
+module _ (s : List ℕ) (hold : stages_hold (map_of s) ≡ true) (a : ℕ) (here : a ≡ stages_at s + 1) where
+  abbrev m : Map
+  m = map_of s
+
+  -- the words of a column, the first at word b
+  abbrev Column : ℕ → List ℕ → Type 0
+  Column b l = (i : ℕ) → i < length l → get_or l i 0 ≡ word s (b + stage_words * i)
+
+  module _ (tails : List ℕ) (t : length tails ≡ m.stages) (T : Column a tails) where
+    same : (i : ℕ) → i < m.stages → get_or tails i 0 ≡ m.tail i
     unfolding map_of
-    same i p = let e : stages_at s + 1 + stage_words * i ≡ a + stage_words * i = omega arith in rw e (T.words i (omega arith))
+    same i p = let e : stages_at s + 1 + stage_words * i ≡ a + stage_words * i = omega arith in rw e (T i (omega arith))
 
-    pub tails-ascend : Ascending tails n
-    tails-ascend = rw stages (ascending (map_of s) sorted tails same)
+    sorted : (i j : ℕ) → i < j → j < m.stages → m.tail i ≤ m.tail j
+    sorted i j p q = ((stages_ok m hold).sorted i j p q).le
 
-    -- the first head stands at word b, the first length at word c
-    pub book-of : (b c p : ℕ) (first heads lengths heads₀ lengths₀ : List ℕ) → n ≤ length tails → n ≤ length heads → n ≤ length lengths → p ≤ length first
-        → Filled n (λ i. word s (b + stage_words * i)) heads₀ heads → Filled n (λ i. word s (c + stage_words * i)) lengths₀ lengths
-        → ((u : ℕ) → u < p → Begins tails n u (get_or first u 0)) → b ≡ stages_at s + 2 → c ≡ stages_at s + 3 → p ≡ (map_of s).places → Book (map_of s) first tails heads lengths
+    pub tails-ascend : Ascending tails (length tails)
+    tails-ascend = rw t (ascending m sorted tails same)
+
+    pub book-of : (first heads lengths first' tails' heads' lengths' : List ℕ) → length first ≡ m.places → length heads ≡ m.stages → length lengths ≡ m.stages
+        → ((u : ℕ) → u < length first → Begins tails (length tails) u (get_or first u 0)) → Column (a + 1) heads → Column (a + 2) lengths
+        → Book m (first ++ first') (tails ++ tails') (heads ++ heads') (lengths ++ lengths')
     unfolding map_of
-    book-of b c p first heads lengths heads₀ lengths₀ t h l f H L B there beyond places = record {
+    book-of first heads lengths first' tails' heads' lengths' f h l B H L = record {
       leads = record {
-        begins = record { long = omega arith; each = λ u q. begins_is (map_of s) sorted tails same u (get_or first u 0) (rw stages at (B u (omega arith))) };
-        to = record { long = omega arith; each = λ i q. rw (← there) (H.words i (omega arith)) };
-        long = record { long = omega arith; each = λ i q. rw (← beyond) (L.words i (omega arith)) };
+        begins = holds_on first' (record { long = omega arith; each = λ u q. begins_is m sorted tails same u (get_or first u 0) (rw t at (B u (omega arith))) });
+        to = holds_on heads' (record { long = omega arith; each = λ i q. let e : stages_at s + 2 + stage_words * i ≡ a + 1 + stage_words * i = omega arith in rw e (H i (omega arith)) });
+        long = holds_on lengths' (record { long = omega arith; each = λ i q. let e : stages_at s + 3 + stage_words * i ≡ a + 2 + stage_words * i = omega arith in rw e (L i (omega arith)) });
       };
-      from = record { long = omega arith; each = same };
+      from = holds_on tails' (record { long = omega arith; each = same });
     }
 
 -- the stage of u's colour c, by the book

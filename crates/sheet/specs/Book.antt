@@ -35,11 +35,6 @@ pub record Past (c : Counts) (first tails heads lengths first' tails' heads' len
   pub head : Untouched c.stages heads heads'
   pub furlongs : Untouched c.stages lengths lengths'
 
--- the first n words are f 0, f 1 and so on, later words untouched
-pub record Filled (n : ℕ) (f : ℕ → ℕ) (before after : List ℕ) : Type 0 where
-  pub words : (i : ℕ) → i < n → get_or after i 0 ≡ f i
-  pub beyond : Untouched n before after
-
 -- b parts the first n tails, which ascend: those before b are below u, the others not
 pub record Begins (tails : List ℕ) (n u b : ℕ) : Type 0 where
   pub most : b ≤ n

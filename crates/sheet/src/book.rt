@@ -1,31 +1,29 @@
 // What fills the road book.
-ghost use Rattle.std.specs.Prelude.{ℕ, ◌+◌, ◌*◌, ◌≤◌, ◌<◌, length, get_or};
+ghost use Rattle.std.specs.Prelude.{ℕ, ◌≡◌, ◌+◌, ◌*◌, ◌≤◌, ◌<◌, length, get_or};
 ghost use Rattle.paper.specs.Sizes.{stage_words, most_places, most_stages};
 ghost use Rattle.paper.specs.Sheet.{word as word_of};
-ghost use Rattle.paper.specs.Slice.{Untouched};
-ghost use Rattle.sheet.specs.Book.{Filled, Begins, Ascending};
+ghost use Rattle.sheet.specs.Book.{Begins, Ascending};
 
 use crate::word;
 use paper::sizes::STAGE_WORDS;
 
-// One word of each of n stage records, the first at word `base`, into the slice.
-pub fn column(sheet: &[u8], base: usize, n: usize, out: &mut [u32])
-    requires { (n ≤ most_stages) × (n ≤ length out.old) × ((i : ℕ) → i < n → 4 * (base + stage_words * i) + 4 ≤ length sheet.now) }
-    ensures { Filled n (λ i. word_of sheet.now (base + stage_words * i)) out.old out.new }
+// One word of each stage record, the first at word `base`, into a slice of as many.
+pub fn column(sheet: &[u8], base: usize, out: &mut [u32])
+    requires { (length out.old ≤ most_stages) × ((i : ℕ) → i < length out.old → 4 * (base + stage_words * i) + 4 ≤ length sheet.now) }
+    ensures { (i : ℕ) → i < length out.new → get_or out.new i 0 ≡ word_of sheet.now (base + stage_words * i) }
 {
-    for (i, to) in out[..n].iter_mut().enumerate() {
+    for (i, to) in out.iter_mut().enumerate() {
         *to = word(sheet, base + STAGE_WORDS * i);
     }
 }
 
 // Where the stages that leave each place begin, by the tails, which ascend.
-pub fn starts(tails: &[u32], n: usize, places: usize, first: &mut [u32])
-    requires n_in_bounds { (n ≤ length tails.now) × (n ≤ most_stages) × (places ≤ length first.old) × (places ≤ most_places) }
-    requires ascending { Ascending tails.now n }
-    ensures by_index { (u : ℕ) → u < places → Begins tails.now n u (get_or first.new u 0) }
-    ensures untouched { Untouched places first.old first.new }
+pub fn starts(tails: &[u32], first: &mut [u32])
+    requires in_bounds { (length tails.now ≤ most_stages) × (length first.old ≤ most_places) }
+    requires ascending { Ascending tails.now (length tails.now) }
+    ensures { (u : ℕ) → u < length first.new → Begins tails.now (length tails.now) u (get_or first.new u 0) }
 {
-    for (u, begin) in first[..places].iter_mut().enumerate() {
-        *begin = tails[..n].partition_point(|&tail| (tail as usize) < u) as u32;
+    for (u, begin) in first.iter_mut().enumerate() {
+        *begin = tails.partition_point(|&tail| (tail as usize) < u) as u32;
     }
 }

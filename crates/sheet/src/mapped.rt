@@ -48,9 +48,10 @@ impl<'a> Mapped<'a> {
     {
         let stages = self.counts.stages;
         let at = stages_at(self.counts) + 1;
-        column(self.bytes, at, stages, tails);
-        column(self.bytes, at + 1, stages, heads);
-        column(self.bytes, at + 2, stages, lengths);
-        starts(tails, stages, self.counts.places, first);
+        let tails = &mut tails[..stages];
+        column(self.bytes, at, tails);
+        column(self.bytes, at + 1, &mut heads[..stages]);
+        column(self.bytes, at + 2, &mut lengths[..stages]);
+        starts(tails, &mut first[..self.counts.places]);
     }
 }

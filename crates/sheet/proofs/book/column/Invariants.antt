@@ -7,4 +7,4 @@ use Rattle.paper.specs.Sheet.{word}
 use Rattle.sheet.proofs.book.column.Given as goal
 
 abbrev pub invariant-loop-i : goal.invariant-loop-i
-invariant-loop-i l = (k : ℕ) → k < l.i → get_or l.to-items k 0 ≡ word l.sheet (l.base + stage_words * k)
+invariant-loop-i l = (k : ℕ) → k < l.i → get_or l.out k 0 ≡ word l.sheet (l.base + stage_words * k)

@@ -9,8 +9,7 @@ use Rattle.sheet.proofs.book.starts.Goals as goal
 pub loop-u-preserved : goal.loop-u-preserved
 loop-u-preserved c =
     let u = c.loop-u.u-counter in
-    let long = c.requires.n_in_bounds.0 in
-    let point = IsPartitionPoint-from_clause (λ t. ltb t u) _ _ c.partition_point.ensures.partitioned (parted_by _ _ u long c.requires.ascending) (λ a r q k. search rules) in
-    let here = begins_by _ _ u long _ c.partition_point.ensures.bound point in
+    let point = IsPartitionPoint-from_clause (λ t. ltb t u) _ _ c.partition_point.ensures.partitioned (parted_by _ u c.requires.ascending) (λ a r q k. search rules) in
+    let here = begins_by _ u _ c.partition_point.ensures.bound point in
     below_more _ _ (λ v h. let d : v ≢ u = omega arith in rw get_or-set_other (c.loop-u.invariant v h))
-    (let h : u < length c.loop-u.begin-items = omega arith in rw get_or-set_same here)
+    (let h : u < length c.loop-u.first = omega arith in rw get_or-set_same here)
