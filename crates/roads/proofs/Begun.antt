@@ -1,35 +1,34 @@
--- How a search starts: the invariant of the loop in `start`, and what stands once v has its length.
+-- How a search starts: what stands once v has its length.
 use mathlib.Core.Path.{◌≡◌, ap, ◌∙◌}
-use mathlib.Core.Logic.{◌≢◌, inr}
-use mathlib.Core.List.{List}
+use mathlib.Core.Logic.{◌≢◌}
+use mathlib.Core.List.{List, ◌++◌}
 use Prim.Native.Nat.{ℕ, ◌+◌, ◌≤◌, ◌<◌}
 use native.Mathlib.Decide.{ℕ_discrete}
 use native.Mathlib.Omega.{arith}
-use lib.ListN.{length, get_or, set, length-set}
-use lib.Seq.{get_or-set_other}
-use Rattle.mintree.specs.Mintree.{Played, Same}
-use Rattle.paper.specs.Sizes.{most_places}
+use lib.ListN.{length, get_or, set, take, drop, replicate, length-replicate}
+use lib.Seq.{get_or-set_other, length-take-le}
+use Rattle.std.proofs.Math.ListN.{get_or-append}
+use Rattle.std.proofs.lemmas.List.{get_or-replicate}
+use Rattle.mintree.specs.Mintree.{Same}
 use Rattle.std.proofs.Common.{rules}
 use Rattle.paper.specs.Map.{Map}
 use Rattle.paper.specs.Road.{arrived}
-use Rattle.paper.specs.Slice.{Untouched}
 use Rattle.roads.specs.Towards.{far}
-use Rattle.roads.specs.Search.{packed, word_of, Done, Halfway, Sound}
+use Rattle.roads.specs.Search.{packed, word_of, Done, Sound}
 
--- ---- `start`: the first u places have no length
-pub record Blank (n u : ℕ) (column₀ column w : List ℕ) : Type 0 where
-  pub upto : u ≤ n
-  pub few : n ≤ most_places
+-- the library's fill gives no place a length
+pub filled_far : (n : ℕ) (l new : List ℕ) → n ≤ length l → new ≡ replicate (length (take n l)) far → (k : ℕ) → k < n → get_or (new ++ drop n l) k 0 ≡ far
+filled_far n l new p e k q = let f : new ≡ replicate n far = rw (length-take-le n l p) at e in
+    rw f (get_or-append (replicate n far) (drop n l) 0 k (omega (arith, length-replicate n far)) ∙ get_or-replicate n k far 0 q)
+
+-- the places have no length
+pub record Blank (n : ℕ) (column w : List ℕ) : Type 0 where
   pub column_room : n ≤ length column
   pub w_room : n + n ≤ length w
-  pub blank : (k : ℕ) → k < u → get_or column k 0 ≡ far
-  pub word : (k : ℕ) → k < u → get_or w (n + k) 0 ≡ packed far k
-  pub past : Untouched n column₀ column
+  pub blank : (k : ℕ) → k < n → get_or column k 0 ≡ far
+  pub word : (k : ℕ) → k < n → get_or w (n + k) 0 ≡ packed far k
 
-pub blank_end : {n u : ℕ} {column₀ column w : List ℕ} → Blank n u column₀ column w → n ≤ u → Blank n n column₀ column w
-blank_end B h = search rules
-
-module _ {n v : ℕ} {column₀ column w w' : List ℕ} (B : Blank n n column₀ column w) (v-in : v < n) (S : Same 0 n (set w (n + v) v) w') (P : Played w' 0 n) where
+module _ {n v : ℕ} {column w w' : List ℕ} (B : Blank n column w) (v-in : v < n) (S : Same 0 n (set w (n + v) v) w') where
   begun-word : word_of w' n v ≡ v
   begun-word = search rules
 
@@ -44,18 +43,6 @@ module _ {n v : ℕ} {column₀ column w w' : List ℕ} (B : Blank n n column₀
 
     other-value : get_or (set column v 0) u 0 ≡ far
     other-value = search rules
-
-  pub begun : Halfway n 0 (set column v 0) w'
-  begun = record {
-    near = omega arith;
-    long = simp length-set B.column_room;
-    played = P;
-    low = λ u l. elim (ℕ_discrete u v) [ yes e ↦ rw e (omega (arith, begun-value)) | no ne ↦ omega (arith, other-value u l ne) ];
-    state = λ u l. inr (elim (ℕ_discrete u v) [
-      | yes e ↦ rw e (record { word = omega (arith, begun-word, begun-value); late = omega arith })
-      | no ne ↦ record { word = omega (arith, other-begun u l ne, other-value u l ne); late = omega arith }
-    ]);
-  }
 
   pub begun_sound : (m : Map) → ((i : ℕ) → i < m.stages → m.head i < n) → Sound m n v 0 0 0 (set column v 0) w'
   begun_sound m head_in = record {

@@ -70,9 +70,9 @@ fn start(column: &mut [u32], words: &mut [u64], n: usize, v: usize)
     ensures untouched { Untouched n column.old column.new }
     ensures by_index { (m : Map) → ((i : ℕ) → i < m.stages → m.head i < n) → Sound m n v 0 0 0 column.new words.new }
 {
-    for u in 0..n {
-        column[u] = FAR;
-        words[n + u] = NONE + u as u64;
+    column[..n].fill(FAR);
+    for (u, word) in words[n..2 * n].iter_mut().enumerate() {
+        *word = NONE + u as u64;
     }
     column[v] = 0;
     words[n + v] = v as u64;

@@ -1,10 +1,10 @@
--- `roads::start` meets its contract. The invariant is `Blank`.
-use native.Mathlib.Omega.{arith}
-use Rattle.roads.proofs.Begun.{blank_end, begun, begun_sound}
+-- `roads::start` meets its contract: every place is blank, and then v has its length.
+use Rattle.std.proofs.Common.{rules}
+use Rattle.std.proofs.lemmas.List.{places}
+use Rattle.roads.proofs.Begun.{filled_far, begun_sound}
 use Rattle.roads.proofs.start.Goals as goal
 
-pub returns-clause-halfway : goal.returns-clause-halfway
-returns-clause-halfway c = begun (blank_end c.loop-u.invariant (omega arith)) c.requires.0 c.build.ensures.same c.build.ensures.played
-
 pub returns-clause-by_index : goal.returns-clause-by_index
-returns-clause-by_index c = begun_sound (blank_end c.loop-u.invariant (omega arith)) c.requires.0 c.build.ensures.same c.build.ensures.played
+returns-clause-by_index c =
+    let blank = filled_far _ _ _ c.requires.2 (c.fill.ensures.after (λ y e. e)) in
+    begun_sound (record { column_room = search rules; w_room = search rules; blank = blank; word = λ k p. search (rules, places) }) c.requires.0 c.build.ensures.same
