@@ -1,5 +1,6 @@
 // Why a sheet or a question is refused.
 ghost use Rattle.std.specs.Prelude.{◌≡◌};
+ghost use Rattle.paper.specs.Refusal.{number_of};
 
 // The paper's refusals by number, in the order of its table; docs/REFUSALS.md says what each means.
 #[derive(Clone, Copy, Debug, PartialEq, Eq)]
@@ -25,12 +26,18 @@ pub enum Refusal {
     TooLarge = 20,
 }
 
-impl From<Refusal> for u32 {
-    ghost use Rattle.paper.specs.Refusal.{number_of};
+// The number in a byte. The call is kept: where it is not, the compiler's table of the numbers is one of whole words, and a handset has little room for constants.
+#[inline(never)]
+fn byte(refusal: Refusal) -> u8
+    ensures { result ≡ number_of refusal }
+{
+    refusal as u8
+}
 
+impl From<Refusal> for u32 {
     ghost from_gives = { λ refusal number. number ≡ number_of refusal };
 
     fn from(refusal: Refusal) -> u32 {
-        refusal as u32
+        u32::from(byte(refusal))
     }
 }

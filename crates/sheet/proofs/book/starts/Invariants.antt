@@ -5,4 +5,4 @@ use Rattle.sheet.specs.Book.{Begins}
 use Rattle.sheet.proofs.book.starts.Given as goal
 
 abbrev pub invariant-loop-u : goal.invariant-loop-u
-invariant-loop-u l = (v : ℕ) → v < l.u-counter → Begins l.tails (length l.tails) v (get_or l.first v 0)
+invariant-loop-u l = (v : ℕ) → v < l.u → Begins l.tails (length l.tails) v (get_or l.first v 0)
