@@ -1,5 +1,5 @@
 -- What a look through a slice shows: of a test over its words, and of a column of distances.
-use Prim.Native.Nat.{ℕ, zero, suc, ◌+◌, ◌<◌, ◌≤◌}
+use Prim.Native.Nat.{ℕ, zero, suc, ◌<◌, ◌≤◌}
 use native.Mathlib.Omega.{arith}
 use native.Mathlib.Numerals.{add-one}
 use mathlib.Core.Path.{◌≡◌, refl, sym, ap, ◌∙◌}
@@ -7,6 +7,7 @@ use mathlib.Core.Bool.{Bool, true, false, not}
 use mathlib.Core.List.{List}
 use lib.Dec.{eqb}
 use lib.ListN.{length, get_or, take}
+use lib.Seq.{take-length}
 use Rattle.std.specs.Prelude.{◌||◌, ◌&&◌}
 use Rattle.std.specs.List.{list_any, list_all}
 use Rattle.std.proofs.lemmas.List.Folds.{list_any_more, list_all_more}
@@ -17,6 +18,7 @@ use Rattle.paper.specs.Road.{Road, IsD}
 use Rattle.paper.proofs.Test.{true_false, any_true, any_of}
 use Rattle.roads.specs.Towards.{far, Towards}
 use Rattle.truth.specs.Roads.{Reached}
+use Rattle.truth.specs.Table.{used, all_used}
 
 -- a test that fails somewhere
 pub every_not : (n : ℕ) (f : ℕ → Bool) → every n f ≡ false → (i : ℕ) × (i < n) × (f i ≡ false)
@@ -53,6 +55,13 @@ every_taken p l zero h = refl
 every_taken p l (suc n) h =
     let more : list_all p (take (suc n) l) ≡ (list_all p (take n l) && p (get_or l n 0)) = rw add-one at (list_all_more p l n 0 (omega arith)) in
     more ∙ ap (λ (b : Bool). b && p (get_or l n 0)) (every_taken p l n (omega arith)) ∙ both-and (every n (λ u. p (get_or l u 0))) (p (get_or l n 0))
+
+pub every_all : (p : ℕ → Bool) (l : List ℕ) → list_all p l ≡ every (length l) (λ u. p (get_or l u 0))
+every_all p l = rw (take-length l) at (every_taken p l (length l) (omega arith))
+
+-- the first n marks as a slice of their own
+pub used_taken : (n : ℕ) (l : List ℕ) → n ≤ length l → all_used (length (take n l)) (take n l) ≡ all_used n l
+used_taken n l h = sym (every_all (λ b. eqb b used) (take n l)) ∙ every_taken (λ b. eqb b used) l n h
 
 -- the look through a column tells whether each place has a road to v
 pub reached : (m : Map) (n v : ℕ) (column : List ℕ) → Towards m n v (λ u. get_or column u 0) → (cut : Bool) → cut ≡ any n (λ u. eqb (get_or column u 0) far)

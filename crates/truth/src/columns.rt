@@ -55,11 +55,10 @@ fn below(fault: Option<Fault>, places: usize) -> usize
 }
 
 // What is due once all pairs are gone through and none is faulty: 15 for a block that no pair marked.
-pub fn final_number(marks: &[u8], blocks: usize) -> Result<(), Refusal>
-    requires { blocks ≤ length marks.now }
-    ensures { number result ≡ due (all_used blocks marks.now) 15 }
+pub fn final_number(marks: &[u8]) -> Result<(), Refusal>
+    ensures { number result ≡ due (all_used (length marks.now) marks.now) 15 }
 {
-    if !all_marked(marks, blocks) {
+    if !all_marked(marks) {
         return Err(Refusal::UselessBlock);
     }
     Ok(())
@@ -89,5 +88,5 @@ pub fn columns<U, T: Table<U>>(survey: &Survey, table: &mut [U]) -> Result<(), R
     if let Some(found) = fault {
         return Err(found.refusal);
     }
-    final_number(&marks, survey.chart.ground.counts.blocks)
+    final_number(&marks[..survey.chart.ground.counts.blocks])
 }

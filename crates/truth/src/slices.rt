@@ -11,20 +11,14 @@ pub fn store_column(distances: &mut [u32], n: usize, v: usize, column: &[u32])
     requires { (v < n) × (n ≤ most_places) × (n * n ≤ length distances.old) × (n ≤ length column.now) }
     ensures { Stored n v column.now distances.old distances.new }
 {
-    for u in 0..n {
-        distances[u * n + v] = column[u];
+    for (u, &distance) in column[..n].iter().enumerate() {
+        distances[u * n + v] = distance;
     }
 }
 
-// Whether each of the n blocks is marked.
-pub fn all_marked(marks: &[u8], n: usize) -> bool
-    requires { n ≤ length marks.now }
-    ensures { result ≡ all_used n marks.now }
+// Whether each block is marked.
+pub fn all_marked(marks: &[u8]) -> bool
+    ensures { result ≡ all_used (length marks.now) marks.now }
 {
-    for mark in &marks[..n] {
-        if *mark != USED {
-            return false;
-        }
-    }
-    true
+    marks.iter().all(|&mark| mark == USED)
 }

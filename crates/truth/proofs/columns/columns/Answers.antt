@@ -1,6 +1,9 @@
 -- `truth::columns::columns` meets its contract. The invariant is `FillingIn`: the first v columns are judged, and stand in the table.
+use mathlib.Core.Path.{sym}
 use native.Mathlib.Omega.{arith}
-use Rattle.truth.proofs.Filling.{Room, place_in}
+use lib.Seq.{length-take-le}
+use Rattle.truth.proofs.Scans.{used_taken}
+use Rattle.truth.proofs.Filling.{place_in}
 use Rattle.truth.proofs.Tabled.{filling_in_none, filling_in_room, filling_in_long, filling_in_more, filling_in_cut, filling_in_found, filling_in_clean}
 use Rattle.truth.proofs.columns.columns.Goals as goal
 
@@ -33,8 +36,13 @@ loop-v-preserved g c =
 pub returns-in-Some : goal.returns-in-Some
 returns-in-Some g c = filling_in_found _ _ _ c.requires.room c.loop-v.invariant _ c.in-Some.is c.loop-v-test.false
 
-pub final_number-requires : goal.final_number-requires
-final_number-requires g c = (filling_in_room _ _ _ c.requires.room c.loop-v.invariant).marks_room
+pub slice_bounds-marks-end : goal.slice_bounds-marks-end
+slice_bounds-marks-end g c = (filling_in_room _ _ _ c.requires.room c.loop-v.invariant).marks_room
+
+pub slice_bounds-final_number-end : goal.slice_bounds-final_number-end
+slice_bounds-final_number-end g c = sym (length-take-le _ _ (filling_in_room _ _ _ c.requires.room c.loop-v.invariant).marks_room)
 
 pub returns : goal.returns
-returns g c = filling_in_clean _ _ _ c.requires.room c.loop-v.invariant c.in_default.is _ c.final_number.ensures c.loop-v-test.false
+returns g c =
+    let R = filling_in_room _ _ _ c.requires.room c.loop-v.invariant in
+    filling_in_clean _ _ _ c.requires.room c.loop-v.invariant c.in_default.is _ (rw (used_taken _ _ R.marks_room) at c.final_number.ensures) c.loop-v-test.false

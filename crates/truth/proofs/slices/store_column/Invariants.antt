@@ -1,10 +1,6 @@
 -- `truth::slices::store_column` meets its contract. The invariant is `Storing`: the first u words of the column are stored.
-use Prim.Native.Nat.{◌-◌, ◌≤◌}
 use Rattle.truth.proofs.Area.{Storing}
 use Rattle.truth.proofs.slices.store_column.Given as goal
 
 abbrev pub invariant-loop-u : goal.invariant-loop-u
-invariant-loop-u l = (l.u ≤ l.n) × Storing l.n l.v l.u l.column l.initial.distances l.distances
-
-abbrev pub decreases-loop-u : goal.decreases-loop-u
-decreases-loop-u l = l.n - l.u
+invariant-loop-u l = Storing l.n l.v l.u l.column l.initial.distances l.distances
