@@ -15,9 +15,9 @@ use Rattle.paper.proofs.Laid.{lawful_laid}
 use Rattle.sheet.specs.Book.{Book}
 use Rattle.paper.specs.Served.{served, refused}
 use Rattle.sheet.specs.Laid.{laid_of}
-use Rattle.sheet.specs.Ground.{Ground, Mapped}
+use Rattle.sheet.specs.Ground.{Mapped}
 use Rattle.sheet.proofs.Room.{Room, room, laid_counts, laid_number}
-use Rattle.sheet.proofs.Grounds.{mapped_lawful, mapped_charted, laid_mapped}
+use Rattle.sheet.proofs.Grounds.{mapped_lawful, mapped_charted}
 use Rattle.roads.specs.Chain.{Chainable, Chained, Starts, GoesOn}
 use Rattle.roads.specs.Towards.{Lists}
 use Rattle.roads.proofs.Laws.{map-starts, map_goes, map_ready, map_entered}

@@ -1,7 +1,7 @@
 -- The table while it is filled, in whatever it stands: what holds at the loop's head, by the words that stand there, and how the loop ends.
 use Prim.Native.Nat.{ℕ, ◌+◌, ◌*◌, ◌≤◌, ◌<◌}
 use native.Mathlib.Omega.{arith}
-use mathlib.Core.Path.{◌≡◌, refl, ap, ◌∙◌}
+use mathlib.Core.Path.{◌≡◌, refl, ap}
 use mathlib.Core.List.{List}
 use lib.ListN.{length, replicate}
 use Rattle.std.specs.Prelude.{Option, Some, None, IfSome}

@@ -1,10 +1,4 @@
 -- `truth::fill` meets its contract: the survey of the map that is read off the bytes, and its columns.
-use mathlib.Core.Path.{sym}
-use Prim.Native.Nat.{◌≤◌}
-use native.Mathlib.Omega.{arith}
-use lib.ListN.{length}
-use lib.Seq.{length-take-le}
-use Rattle.paper.specs.Sizes.{most_stages}
 use Rattle.sheet.proofs.Room.{room}
 use Rattle.sheet.proofs.Booked.{zeros_roomy}
 use Rattle.quadtree.proofs.Charts.{stocked}

@@ -8,7 +8,7 @@ use Rattle.paper.specs.Crow.{crow}
 use Rattle.sheet.specs.Charts.{OnChart}
 use Rattle.quadtree.proofs.Words.{standing}
 use Rattle.truth.specs.Pairs.{colour_true, ratios_true}
-use Rattle.truth.proofs.Pairing.{ratios_same, due_13, due_14, due_none}
+use Rattle.truth.proofs.Pairing.{ratios_same, due_14, due_none}
 use Rattle.truth.proofs.pairs.block_fault.Goals.{After-ratios_hold, Else-not-colour_holds}
 use Rattle.truth.proofs.pairs.block_fault.Goals as goal
 
