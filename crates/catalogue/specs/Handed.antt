@@ -1,6 +1,6 @@
 -- What the code hands back to the host, and how a walk and a column leave the host's bytes.
 use Rattle.std.specs.Prelude.{ℕ, ◌*◌, ◌≡◌, List, length, Result, Ok, Err}
-use Rattle.paper.specs.Sizes.{line_words, word_bytes, long_bytes}
+use Rattle.paper.specs.Sizes.{line_words, long_bytes}
 use Rattle.paper.specs.Served.{Served, refused, served}
 use Rattle.paper.specs.Refusal.{number_of}
 use Rattle.paper.specs.declared.Listed.{Listed}

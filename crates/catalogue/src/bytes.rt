@@ -38,7 +38,7 @@ pub fn store_column(bytes: &mut [u8], n: usize, v: usize, column: &[u32])
     requires { (v < n) × (n ≤ most_places) × (word_bytes * (n * n) ≤ length bytes.old) × (n ≤ length column.now) }
     ensures { (words b : List ℕ) → n * n ≤ length words → word_bytes * length words ≤ length b → bytes.old ≡ written word_bytes words b → StoredIn (written word_bytes) n v column.now words b bytes.new }
 {
-    for u in 0..n {
-        put_word(bytes, WORD_BYTES * (u * n + v), column[u]);
+    for (u, &distance) in column[..n].iter().enumerate() {
+        put_word(bytes, WORD_BYTES * (u * n + v), distance);
     }
 }
