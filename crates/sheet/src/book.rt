@@ -1,6 +1,6 @@
 // What fills the road book.
 ghost use Rattle.std.specs.Prelude.{ℕ, ◌≡◌, ◌+◌, ◌*◌, ◌≤◌, ◌<◌, length, get_or};
-ghost use Rattle.paper.specs.Sizes.{stage_words, most_places, most_stages};
+ghost use Rattle.paper.specs.Sizes.{stage_words, most_stages};
 ghost use Rattle.paper.specs.Sheet.{word as word_of};
 ghost use Rattle.sheet.specs.Book.{Begins, Ascending};
 
@@ -9,7 +9,7 @@ use paper::sizes::STAGE_WORDS;
 
 // One word of each stage record, the first at word `base`, into a slice of as many.
 pub fn column(sheet: &[u8], base: usize, out: &mut [u32])
-    requires { (length out.old ≤ most_stages) × ((i : ℕ) → i < length out.old → 4 * (base + stage_words * i) + 4 ≤ length sheet.now) }
+    requires { (i : ℕ) → i < length out.old → 4 * (base + stage_words * i) + 4 ≤ length sheet.now }
     ensures { (i : ℕ) → i < length out.new → get_or out.new i 0 ≡ word_of sheet.now (base + stage_words * i) }
 {
     for (i, to) in out.iter_mut().enumerate() {
@@ -29,7 +29,7 @@ fn first_from(tails: &[u32], u: usize) -> usize
 
 // The same for each place.
 pub fn starts(tails: &[u32], first: &mut [u32])
-    requires in_bounds { (length tails.now ≤ most_stages) × (length first.old ≤ most_places) }
+    requires few { length tails.now ≤ most_stages }
     requires ascending { Ascending tails.now (length tails.now) }
     ensures { (u : ℕ) → u < length first.new → Begins tails.now (length tails.now) u (get_or first.new u 0) }
 {

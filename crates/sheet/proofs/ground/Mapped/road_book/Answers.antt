@@ -22,18 +22,16 @@ pub stages_at-at-requires : goal.stages_at-at-requires
 stages_at-at-requires c = (room _ _ c.args.self.now.keeps.parts).within
 
 pub column-requires : goal.column-requires
-column-requires c = let R = room _ _ c.args.self.now.keeps.parts in let e = length-take-le _ _ c.requires.tail in (omega (arith, R, e), λ i p. omega (arith, R, e))
+column-requires c = λ i p. omega (arith, room _ _ c.args.self.now.keeps.parts, length-take-le _ _ c.requires.tail)
 
 pub column-requires-2 : goal.column-requires-2
-column-requires-2 c = let R = room _ _ c.args.self.now.keeps.parts in let e = length-take-le _ _ c.requires.head in (omega (arith, R, e), λ i p. omega (arith, R, e))
+column-requires-2 c = λ i p. omega (arith, room _ _ c.args.self.now.keeps.parts, length-take-le _ _ c.requires.head)
 
 pub column-requires-3 : goal.column-requires-3
-column-requires-3 c = let R = room _ _ c.args.self.now.keeps.parts in let e = length-take-le _ _ c.requires.furlongs in (omega (arith, R, e), λ i p. omega (arith, R, e))
+column-requires-3 c = λ i p. omega (arith, room _ _ c.args.self.now.keeps.parts, length-take-le _ _ c.requires.furlongs)
 
-pub starts-requires-clause-in_bounds : goal.starts-requires-clause-in_bounds
-starts-requires-clause-in_bounds c =
-    let R = room _ _ c.args.self.now.keeps.parts in
-    (omega (arith, R, tails (goal.at.starts-requires-clause-in_bounds c).After-column), omega (arith, R, length-take-le _ _ c.requires.places))
+pub starts-requires-clause-few : goal.starts-requires-clause-few
+starts-requires-clause-few c = omega (arith, room _ _ c.args.self.now.keeps.parts, tails (goal.at.starts-requires-clause-few c).After-column)
 
 pub starts-requires-clause-ascending : goal.starts-requires-clause-ascending
 starts-requires-clause-ascending c =
