@@ -4,14 +4,14 @@ use mathlib.Core.Path.{◌≡◌, refl, sym, ap, ◌∙◌}
 use mathlib.Core.Bool.{Bool, true, false}
 use mathlib.Core.Option.{Option, some, none}
 use lib.Dec.{ltb, eqb}
-use borrow.Author.Tests.{eq-eqb, lt-ltb, le-ltb, eqb-true}
+use borrow.Author.Tests.{eq-eqb, lt-ltb, le-ltb, le-leb, lt-leb, eqb-true}
 use Rattle.std.specs.Prelude.{Some, None}
 use Rattle.paper.specs.Served.{Served, refused, served}
 use Rattle.paper.specs.Map.{Map}
 use Rattle.paper.specs.Crow.{crow}
 use Rattle.paper.specs.Stage.{stage_of}
 use Rattle.paper.specs.Block.{block_of}
-use Rattle.paper.specs.Trail.{Ends, Trail, between, ends_by, tested, fresh, start, onward_by, refine}
+use Rattle.paper.specs.Trail.{Ends, Trail, between, ends_by, ordered, tested, fresh, start, onward_by, refine}
 use Rattle.paper.specs.Ground.{SameGround}
 use Rattle.paper.proofs.Ground.{between-same}
 use Rattle.quadtree.specs.Blocks.{cover_of}
@@ -49,6 +49,17 @@ module _ (m : Map) (u v : ℕ) where
 
   pub between_none : (u ≡ v → ⊥) → None ≡ cover_of (block_of m u v) → refused 17 ≡ between m u v
   between_none ne f = rw (between-other ne, cover_none (block_of m u v) f)
+
+-- the test of a trail
+module _ (t : Trail) where
+  tested-as : (o : Bool) → ordered t ≡ o → tested t ≡ elim o [ false ↦ refused 18 | true ↦ served t ]
+  tested-as o e = ap (λ (b : Bool). elim b [ false ↦ refused 18 | true ↦ served t ]) e
+
+  pub tested_empty : t.high < t.low → refused 18 ≡ tested t
+  tested_empty p = sym (tested-as false (lt-leb _ _ p))
+
+  pub tested_served : t.low ≤ t.high → served t ≡ tested t
+  tested_served p = sym (tested-as true (le-leb _ _ p))
 
 -- a start and a stage further, by the interval
 module _ (m : Map) (v : ℕ) where

@@ -5,23 +5,12 @@ use mathlib.Core.List.{List, [], ◌∷◌, ◌++◌}
 use native.Mathlib.Numerals.{add-one}
 use native.Mathlib.Omega.{arith}
 use lib.ListN.{length, get_or, take, drop, set, length-append}
-use lib.Seq.{length-take-le, drop-cons, drop_at, take-append-le, take-take}
+use lib.Seq.{length-take-le, drop-cons, drop_at, take_at, take_all, take-take}
 use Rattle.std.proofs.lemmas.List.{drop_all, drop-take}
 use Rattle.paper.specs.Sizes.{line_words}
 use Rattle.paper.specs.Printed.{decimal, after, line_text, list_text, refusal_text}
 use Rattle.text.specs.Put.{Written}
 use Rattle.text.proofs.Put.{Going, going_step, going_as, going_room, going_fits, going_end, going_last, written_byte}
-
--- the numbers from `from` to `to`: the first, and the others
-pub part_step : (ws : List ℕ) (from to : ℕ) → from < to → to ≤ length ws
-    → take (to - from) (drop from ws) ≡ get_or ws from 0 ∷ take (to - (from + 1)) (drop (from + 1) ws)
-part_step ws from to h k =
-    ap (λ n. take n (drop from ws)) more
-    ∙ ap (take (suc (to - (from + 1)))) (drop-cons ws from 0 (omega arith))
-    ∙ ap (λ n. get_or ws from 0 ∷ take (to - (from + 1)) (drop n ws)) (sym (add-one from))
-  where
-    more : to - from ≡ suc (to - (from + 1))
-    more = omega arith
 
 -- the lines of as many offices as the words hold
 abbrev pub all_lines : List ℕ → List ℕ
@@ -53,14 +42,14 @@ lines_begun k ws h =
     let count : k ≡ length (take (line_words * k) ws) / line_words = omega (arith, length-take-le (line_words * k) ws h) in
     sym (list_taken k ws) ∙ ap (λ n. list_text n (take (line_words * k) ws)) count
 
-lines-step : {ws : List ℕ} (line rest : List ℕ) → ws ≡ line ++ rest → length line ≡ line_words → all_lines ws ≡ line_text (take line_words line) ++ all_lines rest
+lines-step : {ws : List ℕ} (line rest : List ℕ) → ws ≡ line ++ rest → length line ≡ line_words → all_lines ws ≡ line_text line ++ all_lines rest
 unfolding list_text
 lines-step line rest e h =
     let more : length (line ++ rest) / line_words ≡ suc (length rest / line_words) = omega (arith, length-append line rest) in
-    let first : take line_words (line ++ rest) ≡ take line_words line = take-append-le line_words line rest (omega arith) in
+    let first : take line_words (line ++ rest) ≡ line = take_at line rest line_words h in
     let others : drop line_words (line ++ rest) ≡ rest = drop_at line rest line_words h in
     ap all_lines e ∙ ap (λ n. list_text n (line ++ rest)) more ∙ ap (λ l. line_text l ++ list_text (length rest / line_words) (drop line_words (line ++ rest))) first
-    ∙ ap (λ l. line_text (take line_words line) ++ list_text (length rest / line_words) l) others
+    ∙ ap (λ l. line_text line ++ list_text (length rest / line_words) l) others
 
 lines_end : (ws : List ℕ) → length ws < line_words → all_lines ws ≡ []
 unfolding list_text
@@ -83,26 +72,26 @@ module _ (ws : List ℕ) {at : ℕ} {text u : List ℕ} where
 
   module _ {next : ℕ} {v : List ℕ} (g : Going at text (all_lines ws) u v next) where
     module _ (line rest : List ℕ) (e : ws ≡ line ++ rest) (h : length line ≡ line_words) where
-      pub list-fits : at + length text ≤ length u → next + length (line_text (take line_words line)) ≤ length v
-      list-fits room = going_fits (line_text (take line_words line)) (all_lines rest) g (lines-step line rest e h) room
+      pub list-fits : at + length text ≤ length u → next + length (line_text line) ≤ length v
+      list-fits room = going_fits (line_text line) (all_lines rest) g (lines-step line rest e h) room
 
-      pub list-more : {w : List ℕ} {past : ℕ} → Written next (line_text (take line_words line)) v w past → Going at text (all_lines rest) u w past
+      pub list-more : {w : List ℕ} {past : ℕ} → Written next (line_text line) v w past → Going at text (all_lines rest) u w past
       list-more p = going_step (going_as g (lines-step line rest e h)) p
 
     pub list_done : length ws < line_words → Written at text u v next
     list_done h = going_end (going_as g (lines_end ws h))
 
-pub line_parts : (ws : List ℕ) (from count : ℕ) → 1 ≤ count → from + count ≤ length ws
-    → line_text (take count (drop from ws)) ≡ decimal (get_or ws from 0) ++ after (take (from + count - (from + 1)) (drop (from + 1) ws))
-unfolding line_text
-line_parts ws from count h k =
-    let all : count ≡ from + count - from = omega arith in
-    ap (λ n. line_text (take n (drop from ws))) all
-    ∙ ap line_text (part_step ws from (from + count) (omega arith) k)
+-- the first number of a line, and the others
+abbrev others_of : List ℕ → List ℕ
+others_of ws = take (length ws - 1) (drop 1 ws)
 
-pub line-length : (ws : List ℕ) (from count : ℕ) → 1 ≤ count → from + count ≤ length ws
-    → length (line_text (take count (drop from ws))) ≡ length (decimal (get_or ws from 0)) + length (after (take (from + count - (from + 1)) (drop (from + 1) ws)))
-line-length ws from count h k = ap length (line_parts ws from count h k) ∙ length-append (decimal (get_or ws from 0)) _
+pub line_parts : (ws : List ℕ) → 1 ≤ length ws → line_text ws ≡ decimal (get_or ws 0 0) ++ after (others_of ws)
+unfolding line_text
+line_parts [] h = absurd (omega (arith, h))
+line_parts (n ∷ ns) h = ap (λ l. decimal n ++ after l) (sym (take_all (length (n ∷ ns) - 1) ns (omega arith)))
+
+pub line-length : (ws : List ℕ) → 1 ≤ length ws → length (line_text ws) ≡ length (decimal (get_or ws 0 0)) + length (after (others_of ws))
+line-length ws h = ap length (line_parts ws h) ∙ length-append (decimal (get_or ws 0 0)) _
 
 -- `refused` and a space
 abbrev pub refused_word : List ℕ

@@ -2,7 +2,7 @@
 // By hand: of the library's writers, `write!` promises its bytes to a `Vec` alone, which needs a heap, and of a slice it says nothing.
 #![tactic(auto)]
 
-ghost use Rattle.std.specs.Prelude.{◌≡◌, List, ◌∷◌, ℕ, ◌+◌, ◌*◌, ◌≤◌, ◌<◌, length, take, drop, IfOk, IfErr};
+ghost use Rattle.std.specs.Prelude.{◌≡◌, List, ◌∷◌, ℕ, ◌+◌, ◌*◌, ◌≤◌, ◌<◌, length, IfOk, IfErr};
 ghost use Rattle.paper.specs.Sizes.{line_words};
 ghost use Rattle.paper.specs.Printed.{decimal, after, line_text, refusal_text, list_text, reply_text};
 ghost use Rattle.text.specs.Put.{Put, Written, count_of, reply_of};
@@ -74,14 +74,14 @@ fn put_after(out: &mut [u8], at: usize, words: &[u64]) -> usize
     next + 1
 }
 
-// A line of the `count` numbers from words[from] on.
-pub fn put_numbers(out: &mut [u8], at: usize, words: &[u64], from: usize, count: usize) -> usize
-    requires le_count { (1 ≤ count) × (from + count ≤ length words.now) }
-    requires words_in_bounds { at + length (line_text (take count (drop from words.now))) ≤ length out.old }
-    ensures { Written at (line_text (take count (drop from words.now))) out.old out.new result }
+// A line of the numbers.
+pub fn put_numbers(out: &mut [u8], at: usize, words: &[u64]) -> usize
+    requires some { 1 ≤ length words.now }
+    requires words_in_bounds { at + length (line_text words.now) ≤ length out.old }
+    ensures { Written at (line_text words.now) out.old out.new result }
 {
-    let next = put_decimal(out, at, words[from]);
-    put_after(out, next, &words[from + 1..from + count])
+    let next = put_decimal(out, at, words[0]);
+    put_after(out, next, &words[1..])
 }
 
 // The lines of the k listed offices.
@@ -92,7 +92,7 @@ pub fn put_list(out: &mut [u8], at: usize, answer: &[u64], k: usize) -> usize
 {
     let mut next = at;
     for line in answer[..LINE_WORDS * k].chunks_exact(LINE_WORDS) {
-        next = put_numbers(out, next, line, 0, LINE_WORDS);
+        next = put_numbers(out, next, line);
     }
     next
 }
@@ -127,7 +127,7 @@ pub fn put_reply(out: &mut [u8], reply: Result<Listed, u32>, answer: &[u64]) -> 
         Err(number) => put_refusal(out, 0, number),
         Ok(listed) => {
             let counts = [u64::from(listed.count), listed.refinements];
-            let next = put_numbers(out, 0, &counts, 0, 2);
+            let next = put_numbers(out, 0, &counts);
             put_list(out, next, answer, listed.count as usize)
         }
     }

@@ -5,10 +5,10 @@ use Rattle.text.proofs.Lines.{line_parts, line-length}
 use Rattle.text.proofs.put_numbers.Goals as goal
 
 pub put_decimal-next-requires : goal.put_decimal-next-requires
-put_decimal-next-requires c = omega (arith, line-length c.args.words.now c.args.from c.args.count c.requires.le_count.0 c.requires.le_count.1)
+put_decimal-next-requires c = omega (arith, line-length c.args.words.now c.requires.some)
 
 pub put_after-requires : goal.put_after-requires
-put_after-requires c = omega (arith, line-length c.args.words.now c.args.from c.args.count c.requires.le_count.0 c.requires.le_count.1, c.put_decimal-next.ensures.past, put_length c.put_decimal-next.ensures.put)
+put_after-requires c = omega (arith, line-length c.args.words.now c.requires.some, c.put_decimal-next.ensures.past, put_length c.put_decimal-next.ensures.put)
 
 pub returns : goal.returns
-returns c = rw (line_parts c.args.words.now c.args.from c.args.count c.requires.le_count.0 c.requires.le_count.1) (written_then c.put_decimal-next.ensures c.put_after.ensures)
+returns c = rw (line_parts c.args.words.now c.requires.some) (written_then c.put_decimal-next.ensures c.put_after.ensures)
