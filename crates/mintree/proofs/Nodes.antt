@@ -1,5 +1,5 @@
 -- How a store keeps the rule of the nodes, and the invariants of the loops in `build` and `change`.
-use mathlib.Core.Path.{◌≡◌, refl, sym, ap, ◌∙◌}
+use mathlib.Core.Path.{◌≡◌, sym, ap}
 use mathlib.Core.Logic.{◌≢◌}
 use mathlib.Core.List.{List}
 use Prim.Native.Nat.{ℕ, ◌+◌, ◌-◌, ◌*◌, ◌/◌, ◌%◌, ◌≤◌, ◌<◌, min}
@@ -7,6 +7,7 @@ use native.Mathlib.Decide.{ℕ_discrete}
 use native.Mathlib.Omega.{arith}
 use lib.ListN.{get_or, set, length-set}
 use lib.Seq.{get_or-set_same, get_or-set_other}
+use Rattle.std.proofs.Common.{rules}
 use Rattle.mintree.specs.Mintree.{Room, Played, Same}
 
 -- the word of a node, and the rule there
@@ -20,14 +21,10 @@ pub room_set : (w : List ℕ) (tree n k v : ℕ) → Room w tree n → Room (set
 room_set w tree n k v R = record { some = R.some; ends = simp length-set R.ends }
 
 pub same_refl : (tree n : ℕ) (a : List ℕ) → Same tree n a a
-same_refl tree n a = record { long = refl; before = λ k h. refl; after = λ k h. refl }
+same_refl tree n a = search rules
 
 pub same_set : (tree n : ℕ) (a b : List ℕ) (k v : ℕ) → Same tree n a b → tree < k → k < tree + n → Same tree n a (set b k v)
-same_set tree n a b k v S h l = record {
-  long = length-set b k v ∙ S.long;
-  before = λ x lx. get_or-set_other b k x v 0 (omega arith) ∙ S.before x lx;
-  after = λ x lx. get_or-set_other b k x v 0 (omega arith) ∙ S.after x lx;
-}
+same_set tree n a b k v S h l = search (rules, S.before, S.after, get_or-set_other, length-set)
 
 -- a store at the node p leaves the rule at every node but p and the one above it
 pub apart : (w : List ℕ) (tree p x q : ℕ) → q ≢ p → q ≢ p / 2 → Rule w tree q → Rule (set w (tree + p) x) tree q

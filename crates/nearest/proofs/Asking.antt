@@ -3,8 +3,7 @@ use Prim.Native.Nat.{ℕ, zero, suc, ◌*◌, ◌≤◌}
 use native.Mathlib.Omega.{arith}
 use mathlib.Core.Path.{◌≡◌, refl, sym, ap, ◌∙◌}
 use mathlib.Core.List.{List, ◌++◌}
-use lib.ListN.{length, take, drop, replicate}
-use Rattle.std.proofs.lemmas.List.{length-take-le}
+use lib.ListN.{length, drop}
 use Rattle.paper.specs.Sizes.{line_words, slot_words}
 use Rattle.paper.specs.Refusal.{number_of}
 use Rattle.paper.specs.declared.refusal.Refusal.{Refusal}

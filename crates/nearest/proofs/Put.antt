@@ -16,6 +16,9 @@ use Rattle.paper.proofs.Slots.{set_all}
 use Rattle.nearest.specs.Working.{tree_at, key, gone, key_in, Stored, Held, Shown}
 use Rattle.nearest.proofs.Hold.{stored_side, stored_key, changed_side, changed_beyond}
 
+pub room : {i n : ℕ} {t : Trail} {w w₁ : List ℕ} → Room w (tree_at n) n → Stored i t w w₁ → Room w₁ (tree_at n) n
+room R X = record { some = R.some; ends = omega (arith, R.ends, X.long) }
+
 -- office i is put back with the trail t
 module _ {places n : ℕ} {w : List ℕ} (ss : List Slot) (i : ℕ) (p : i < n) (S : Shown places n w (retired ss i))
     (t : Trail) (w₁ w₂ : List ℕ) (X : Stored i t w w₁) (x : ℕ) (e : x ≡ key t.low i) (C : Same (tree_at n) n (set w₁ (tree_at n + (n + i)) x) w₂)
@@ -39,9 +42,6 @@ module _ {places n : ℕ} {w : List ℕ} (ss : List Slot) (i : ℕ) (p : i < n) 
   key-other : (j : ℕ) → j ≢ i → key_in w₂ n j ≡ key_in w n j
   key-other j ne = word_other w₁ w₂ (tree_at n) n i x C j ne ∙ stored_key X n j p
 
-  room : Room w₁ (tree_at n) n
-  room = record { some = omega arith; ends = omega (arith, S.played.room.ends, X.long) }
-
   pub put_back : Shown places n w₂ (refined ss i t)
   put_back = record {
     few = S.few;
@@ -51,7 +51,7 @@ module _ {places n : ℕ} {w : List ℕ} (ss : List Slot) (i : ℕ) (p : i < n) 
     held = set_all (λ j s. j < n → s.waits ≡ true → Held w₂ n j s.trail) ss i y inside
         (λ q z. record {
           side = changed_side n i x w₁ w₂ p C i t p X.side;
-          low = word_new w₁ w₂ (tree_at n) n i x C room p ∙ e;
+          low = word_new w₁ w₂ (tree_at n) n i x C (room S.played.room X) p ∙ e;
         })
         (λ j ne q z.
         let H : Held w n j (at ss j).trail = rw (other j ne) at (S.held j q (rw (other j ne) z)) in

@@ -28,12 +28,12 @@ pub fn take_leader(working: &mut [u64], n: usize) -> Lead
     ensures beyond { Beyond (slot_words * n) working.old working.new }
     ensures by_index { (places : ℕ) (ss : List Slot) → Shown places n working.old ss → Led places n ss working.new result }
 {
-    let tree = SIDE_WORDS * n;
-    let least = top(working, tree, n);
+    let least = top(&working[SIDE_WORDS * n..], n);
     let number = (least % PACK) as usize;
     let trail = trail_at(working, number, Network(least / PACK));
-    change(working, tree, n, number, GONE);
-    let rest = top(working, tree, n);
+    let tree = &mut working[SIDE_WORDS * n..];
+    change(tree, n, number, GONE);
+    let rest = top(tree, n);
     Lead {
         number,
         trail,
@@ -48,5 +48,5 @@ pub fn put_back(working: &mut [u64], n: usize, i: usize, t: Trail)
     ensures by_index { (places : ℕ) (ss : List Slot) → Shown places n working.old (retired ss i) → Sane places (trail_of t) → Shown places n working.new (refined ss i (trail_of t)) }
 {
     store(working, i, t);
-    change(working, SIDE_WORDS * n, n, i, key(t.low, i));
+    change(&mut working[SIDE_WORDS * n..], n, i, key(t.low, i));
 }

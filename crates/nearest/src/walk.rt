@@ -91,7 +91,7 @@ impl<'a> Errand<'a> {
         for i in 0..n {
             self.set_out(i, working)?;
         }
-        build(working, SIDE_WORDS * n, n);
+        build(&mut working[SIDE_WORDS * n..], n);
         Ok(())
     }
 

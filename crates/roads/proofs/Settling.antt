@@ -34,7 +34,7 @@ module _ {n d : ℕ} {column w : List ℕ} {r : ℕ} (few : n ≤ most_places) (
     pub at_open : word_of w n (r % pack) ≡ r
     at_open = rw at-is (sym L.is)
 
-    module _ {p : ℕ} (p-is : p ≡ r % pack) {w' : List ℕ} (S : Same 0 n (set w (0 + (n + p)) (packed far p)) w') (P : Played w' 0 n) where
+    module _ {p : ℕ} (p-is : p ≡ r % pack) {w' : List ℕ} (S : Same 0 n (set w (n + p) (packed far p)) w') (P : Played w' 0 n) where
       pub taken-done : Done (r / pack) (get_or column p 0) (word_of w' n p) p
       taken-done = search rules
 
@@ -102,7 +102,7 @@ module _ {tails lengths last previous : List ℕ} {n : ℕ} {column₀ w₀ colu
     pub next-in : r % pack < n
     next-in = at_in R.few K.after.halfway L some
 
-    module _ {w₁ : List ℕ} (S₁ : Same 0 n (set w (0 + (n + r % pack)) (packed far (r % pack))) w₁) (P₁ : Played w₁ 0 n) where
+    module _ {w₁ : List ℕ} (S₁ : Same 0 n (set w (n + r % pack) (packed far (r % pack))) w₁) (P₁ : Played w₁ 0 n) where
       pub next-after : After n K.d column w (r / pack) column w₁
       next-after = search rules
 

@@ -59,7 +59,7 @@ fn lower(column: &mut [u32], words: &mut [u64], n: usize, u: usize, y: Network)
 {
     if y.0 < Network::from(column[u]).0 {
         column[u] = y.0 as u32;
-        change(words, 0, n, u, y.0 * PACK + u as u64);
+        change(words, n, u, y.0 * PACK + u as u64);
     }
 }
 
@@ -76,7 +76,7 @@ fn start(column: &mut [u32], words: &mut [u64], n: usize, v: usize)
     }
     column[v] = 0;
     words[n + v] = v as u64;
-    build(words, 0, n);
+    build(words, n);
 }
 
 impl Roads<'_> {
@@ -104,12 +104,12 @@ impl Roads<'_> {
         ensures towards { (m : Map) (v : ℕ) → Lists m self.now.tails.now self.now.lengths.now self.now.places → Starts m.head self.now.places m.stages self.now.last.now → GoesOn m.head m.stages self.now.previous.now → Sound m self.now.places v 0 0 0 column.old words.old → Towards m self.now.places v (λ u. get_or column.new u 0) }
     {
         loop {
-            let t = top(words, 0, self.places);
+            let t = top(words, self.places);
             if t >= NONE {
                 return;
             }
             let p = (t % PACK) as usize;
-            change(words, 0, self.places, p, NONE + p as u64);
+            change(words, self.places, p, NONE + p as u64);
             self.spread(self.last[p] as usize, Network(t / PACK), column, words);
         }
     }

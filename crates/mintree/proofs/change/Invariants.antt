@@ -3,7 +3,7 @@ use Rattle.mintree.proofs.Nodes.{Loose}
 use Rattle.mintree.proofs.change.Given as goal
 
 abbrev pub invariant-loop-p : goal.invariant-loop-p
-invariant-loop-p l = Loose l.initial.words l.words l.tree l.n l.p l.won
+invariant-loop-p l = Loose l.initial.words l.words 0 l.n l.p l.won
 
 abbrev pub decreases-loop-p : goal.decreases-loop-p
 decreases-loop-p l = l.p

@@ -1,7 +1,10 @@
 -- `Errand::set_out_all` meets its contract.
 use native.Mathlib.Omega.{arith}
 use Rattle.std.proofs.lemmas.Result.{err_from_is_err_and}
+use Rattle.mintree.specs.Mintree.{Room}
+use Rattle.mintree.proofs.Parts.{part_back, built_back, played_whole}
 use Rattle.sheet.proofs.Grounds.{roll_count}
+use Rattle.nearest.specs.Working.{tree_at}
 use Rattle.nearest.proofs.Take.{beyond_then, beyond_same}
 use Rattle.nearest.proofs.Begun.{prefix_none, prefix_next, prefix-refused, started_all}
 use Rattle.nearest.proofs.errand.Errand.set_out_all.Goals as goal
@@ -25,4 +28,6 @@ loop-i-preserved c =
 pub returns-clause-all_started : goal.returns-clause-all_started
 returns-clause-all_started c =
     let R = c.args.self.now.roll in
-    started_all _ _ _ _ _ (roll_count R) (omega arith) c.loop-i.invariant.2 R.few (omega (arith, c.requires.1, c.loop-i.invariant.1.long)) _ c.build.ensures.same c.build.ensures.played
+    let long = c.loop-i.invariant.1.long in
+    let F : Room c.loop-i.working (tree_at c.args.self.now.chart.ground.counts.offices) c.args.self.now.chart.ground.counts.offices = record { some = c.requires.0; ends = omega (arith, c.requires.1, long) } in
+    started_all _ _ _ _ _ (roll_count R) (omega arith) c.loop-i.invariant.2 R.few (omega (arith, c.requires.1, long)) _ (built_back F c.build.auto.words c.build.ensures.same) (played_whole (part_back F c.build.auto.words) c.build.ensures.played)
