@@ -4,12 +4,11 @@ ghost use Rattle.paper.specs.Sizes.{block_words, top_level};
 ghost use Rattle.paper.specs.Map.{Map};
 ghost use Rattle.paper.specs.Sheet.{map_of, blocks_at};
 ghost use Rattle.paper.specs.Layout.{block_holds, blocks_hold};
-ghost use Rattle.sheet.specs.Ground.{Parted};
 ghost use Rattle.sheet.specs.Records.{BlockIs, Leaving};
 
+use crate::ground::Parts;
 use crate::{blocks_at, word};
 use cells::cells_under;
-use paper::Counts;
 use paper::sizes::{ALL_CELLS, BLOCK_WORDS, TOP_LEVEL};
 
 // More than the end of any block.
@@ -65,20 +64,17 @@ fn block_holds(block: Block, places: usize, leaving: &[u32]) -> bool
 }
 
 // Whether each block holds, and they ascend by place and within a place by code without overlap.
-pub fn blocks_hold(sheet: &[u8], counts: Counts, leaving: &[u32]) -> bool
-    requires parted { Parted sheet.now counts }
-    requires places_in_bounds { counts.places ≤ length leaving.now }
-    requires leaving { Leaving (map_of sheet.now) leaving.now }
-    ensures { result ≡ blocks_hold (map_of sheet.now) }
+pub fn blocks_hold(parts: &Parts, leaving: &[u32]) -> bool
+    requires places_in_bounds { parts.now.counts.places ≤ length leaving.now }
+    requires leaving { Leaving (map_of parts.now.bytes.now) leaving.now }
+    ensures { result ≡ blocks_hold (map_of parts.now.bytes.now) }
 {
-    let places = counts.places;
-    let blocks = counts.blocks;
-    let at = blocks_at(counts);
+    let at = blocks_at(parts.counts);
     // where the block before ends, as place × SPAN + code
     let mut from = 0;
-    for i in 0..blocks {
-        let block = read_block(sheet, at, i);
-        if !block_holds(block, places, leaving) {
+    for i in 0..parts.counts.blocks {
+        let block = read_block(parts.bytes, at, i);
+        if !block_holds(block, parts.counts.places, leaving) {
             return false;
         }
         let key = block.owner * SPAN + block.code;

@@ -1,8 +1,16 @@
 // What the core reads: the ground, the map that is read off the bytes, and a whole sheet. Each fact is kept by its type.
 ghost use Rattle.paper.specs.Layout.{Bytes};
-ghost use Rattle.sheet.specs.Ground.{Ground as keeps_places, Mapped as keeps_rules, Roll, Stocked};
+ghost use Rattle.sheet.specs.Ground.{Ground as keeps_places, Mapped as keeps_rules, Parted, Roll, Stocked};
 
 use paper::Counts;
+
+// Bytes that begin with whole sections of places, stages and blocks.
+#[derive(Clone, Copy)]
+pub(crate) struct Parts<'a> {
+    pub bytes: &'a [u8],
+    pub counts: Counts,
+    pub ghost parted: { Parted bytes.now counts },
+}
 
 // Places and blocks at the start of some bytes.
 #[derive(Clone, Copy)]

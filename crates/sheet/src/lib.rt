@@ -16,6 +16,7 @@ ghost use Rattle.paper.specs.Sheet.{word as word_of};
 ghost use Rattle.sheet.specs.Laid.{Sectioned, Within, stages_from, blocks_from, offices_from, list_from, laid_of};
 
 pub use blocks::Block;
+use ground::Parts;
 pub use ground::{Chart, Ground, Mapped, Sheet};
 use paper::sizes::{BLOCK_WORDS, MOST_PLACES, PLACE_WORDS, STAGE_WORDS, WORD_BYTES};
 use paper::{Counts, Refusal};
@@ -64,21 +65,22 @@ pub fn list_at(counts: Counts) -> usize
 
 // The rules that the records keep (3 to 6), where the sections are whole.
 #[tactic(auto, unfolding(crate::specs::Laid::laid_of, paper::specs::Layout::layout))]
-fn records(sheet: &[u8], counts: Counts) -> Result<(), Refusal>
-    requires { Sectioned sheet.now counts }
-    ensures { served_as (λ _. counts) result ≡ laid_of sheet.now }
+fn records(bytes: &[u8], counts: Counts) -> Result<(), Refusal>
+    requires { Sectioned bytes.now counts }
+    ensures { served_as (λ _. counts) result ≡ laid_of bytes.now }
 {
+    let parts = Parts { bytes, counts };
     let mut leaving = [0u32; MOST_PLACES];
-    if !places::places_hold(sheet, counts) {
+    if !places::places_hold(&parts) {
         return Err(Refusal::BadPlaces);
     }
-    if !stages::stages_hold(sheet, counts, &mut leaving) {
+    if !stages::stages_hold(&parts, &mut leaving) {
         return Err(Refusal::BadStages);
     }
-    if !blocks::blocks_hold(sheet, counts, &leaving) {
+    if !blocks::blocks_hold(&parts, &leaving) {
         return Err(Refusal::BadBlocks);
     }
-    if !offices::offices_hold(&sheet[list_at(counts)..], counts.places) {
+    if !offices::offices_hold(&bytes[list_at(counts)..], counts.places) {
         return Err(Refusal::BadOffices);
     }
     Ok(())

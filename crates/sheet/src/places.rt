@@ -5,13 +5,13 @@ ghost use Rattle.paper.specs.Test.{every};
 ghost use Rattle.paper.specs.Map.{Map};
 ghost use Rattle.paper.specs.Sheet.{map_of};
 ghost use Rattle.paper.specs.Layout.{place_holds, places_hold};
-ghost use Rattle.sheet.specs.Ground.{Parted};
 ghost use Rattle.sheet.specs.Records.{LiesAt, Taken};
 
+use crate::ground::Parts;
 use crate::word;
 use differ::all_differ;
+use paper::Cell;
 use paper::sizes::{GRID_SIDE, MOST_PLACES, PLACE_WORDS};
-use paper::{Cell, Counts};
 
 // Where the place v lies.
 #[tactic(auto, unfolding(paper::specs::Sheet::map_of))]
@@ -44,15 +44,14 @@ fn place_holds(cell: Cell, gazetteer: u32) -> bool
 }
 
 // Whether each place holds; if so, the slices have the cell of each as one number, and its gazetteer number.
-fn take_places(sheet: &[u8], counts: Counts, cells: &mut [u32], numbers: &mut [u32]) -> bool
-    requires parted { Parted sheet.now counts }
-    requires places_in_bounds { (counts.places ≤ length cells.old) × (counts.places ≤ length numbers.old) }
-    ensures value { result ≡ every counts.places (place_holds (map_of sheet.now)) }
-    ensures taken { result ≡ true → Taken (map_of sheet.now) counts.places cells.new numbers.new }
+fn take_places(parts: &Parts, cells: &mut [u32], numbers: &mut [u32]) -> bool
+    requires { (parts.now.counts.places ≤ length cells.old) × (parts.now.counts.places ≤ length numbers.old) }
+    ensures value { result ≡ every parts.now.counts.places (place_holds (map_of parts.now.bytes.now)) }
+    ensures taken { result ≡ true → Taken (map_of parts.now.bytes.now) parts.now.counts.places cells.new numbers.new }
 {
-    for i in 0..counts.places {
-        let cell = cell_of(sheet, i);
-        let gazetteer = gazetteer_of(sheet, i);
+    for i in 0..parts.counts.places {
+        let cell = cell_of(parts.bytes, i);
+        let gazetteer = gazetteer_of(parts.bytes, i);
         if !place_holds(cell, gazetteer) {
             return false;
         }
@@ -63,14 +62,13 @@ fn take_places(sheet: &[u8], counts: Counts, cells: &mut [u32], numbers: &mut [u
 }
 
 // Whether each place holds, no two share a cell, and no two a gazetteer number.
-pub fn places_hold(sheet: &[u8], counts: Counts) -> bool
-    requires { Parted sheet.now counts }
-    ensures { result ≡ places_hold (map_of sheet.now) }
+pub(crate) fn places_hold(parts: &Parts) -> bool
+    ensures { result ≡ places_hold (map_of parts.now.bytes.now) }
 {
-    let places = counts.places;
+    let places = parts.counts.places;
     let mut cells = [0u32; MOST_PLACES];
     let mut numbers = [0u32; MOST_PLACES];
-    if !take_places(sheet, counts, &mut cells, &mut numbers) {
+    if !take_places(parts, &mut cells, &mut numbers) {
         return false;
     }
     all_differ(&cells[..places]) && all_differ(&numbers[..places])

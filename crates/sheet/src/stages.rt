@@ -5,11 +5,10 @@ ghost use Rattle.paper.specs.Map.{Map};
 ghost use Rattle.paper.specs.Sheet.{map_of, stages_at};
 ghost use Rattle.paper.specs.Layout.{stage_holds, stages_hold};
 ghost use Rattle.paper.specs.Slice.{Untouched};
-ghost use Rattle.sheet.specs.Ground.{Parted};
 ghost use Rattle.sheet.specs.Records.{StageIs, Zeros, Leaving};
 
+use crate::ground::Parts;
 use crate::{stages_at, word};
-use paper::Counts;
 use paper::sizes::{MOST_FURLONGS, MOST_LEAVING, MOST_PLACES, STAGE_WORDS};
 
 // More than any place.
@@ -47,21 +46,18 @@ fn stage_holds(stage: Stage, places: usize) -> bool
 }
 
 // Whether each stage holds, they strictly ascend by (tail, head), and at most 8 leave a place; if so, leaving[u] leave u. Words past the places stay.
-pub fn stages_hold(sheet: &[u8], counts: Counts, leaving: &mut [u32]) -> bool
-    requires parted { Parted sheet.now counts }
-    requires zeros { Zeros counts.places leaving.old }
-    ensures value { result ≡ stages_hold (map_of sheet.now) }
-    ensures leaving { result ≡ true → Leaving (map_of sheet.now) leaving.new }
-    ensures untouched { Untouched counts.places leaving.old leaving.new }
+pub fn stages_hold(parts: &Parts, leaving: &mut [u32]) -> bool
+    requires { Zeros parts.now.counts.places leaving.old }
+    ensures value { result ≡ stages_hold (map_of parts.now.bytes.now) }
+    ensures leaving { result ≡ true → Leaving (map_of parts.now.bytes.now) leaving.new }
+    ensures untouched { Untouched parts.now.counts.places leaving.old leaving.new }
 {
-    let places = counts.places;
-    let stages = counts.stages;
-    let at = stages_at(counts);
+    let at = stages_at(parts.counts);
     // one more than the stage before, as tail × SPAN + head
     let mut from = 0;
-    for i in 0..stages {
-        let stage = read_stage(sheet, at, i);
-        if !stage_holds(stage, places) {
+    for i in 0..parts.counts.stages {
+        let stage = read_stage(parts.bytes, at, i);
+        if !stage_holds(stage, parts.counts.places) {
             return false;
         }
         let key = stage.tail * SPAN + stage.head;

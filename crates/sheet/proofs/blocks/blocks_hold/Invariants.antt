@@ -5,7 +5,7 @@ use Rattle.sheet.proofs.Blocked.{Blocked}
 use Rattle.sheet.proofs.blocks.blocks_hold.Given as goal
 
 abbrev pub invariant-loop-i : goal.invariant-loop-i
-invariant-loop-i l = (l.i ≤ l.blocks) × Blocked (map_of l.sheet) l.i l.from
+invariant-loop-i l = (l.i ≤ l.i-end) × Blocked (map_of l.parts.bytes.now) l.i l.from
 
 abbrev pub decreases-loop-i : goal.decreases-loop-i
-decreases-loop-i l = l.blocks - l.i
+decreases-loop-i l = l.i-end - l.i

@@ -16,22 +16,22 @@ use Rattle.sheet.proofs.places.places_hold.Goals.{After-take_places, Else-not-ta
 use Rattle.sheet.proofs.places.places_hold.Goals as goal
 
 -- both slices are as long as there may be places
-long : (c : After-take_places) → let n = c.args.counts.places in (n ≤ length c.take_places.new.cells) × (n ≤ length c.take_places.new.numbers)
-long c = let W = (room _ _ c.requires).within in let z = length-replicate {A = ℕ} most_places 0 in (omega (arith, W, z, c.take_places.auto.cells), omega (arith, W, z, c.take_places.auto.numbers))
+long : (c : After-take_places) → let n = c.args.parts.now.counts.places in (n ≤ length c.take_places.new.cells) × (n ≤ length c.take_places.new.numbers)
+long c = let W = (room _ _ c.args.parts.now.parted).within in let z = length-replicate {A = ℕ} most_places 0 in (omega (arith, W, z, c.take_places.auto.cells), omega (arith, W, z, c.take_places.auto.numbers))
 
 -- what the paper's rule comes to, once each place holds
-by-words : (c : Else-not-take_places) → let n = c.args.counts.places in let cells = take n c.take_places.new.cells in let numbers = take n c.take_places.new.numbers in
-    both (apart (length cells) (same cells)) (apart (length numbers) (same numbers)) ≡ places_hold (map_of c.args.sheet.now)
+by-words : (c : Else-not-take_places) → let n = c.args.parts.now.counts.places in let cells = take n c.take_places.new.cells in let numbers = take n c.take_places.new.numbers in
+    both (apart (length cells) (same cells)) (apart (length numbers) (same numbers)) ≡ places_hold (map_of c.args.parts.now.bytes.now)
 by-words c =
     let e = c.if-not-take_places.false in
     let L = long (goal.at.Else-not-take_places c).After-take_places in
-    places-by _ _ _ _ (room _ _ c.requires).places L.0 L.1 (sym c.take_places.ensures.value ∙ e) (c.take_places.ensures.taken e)
+    places-by _ _ _ _ (room _ _ c.args.parts.now.parted).places L.0 L.1 (sym c.take_places.ensures.value ∙ e) (c.take_places.ensures.taken e)
 
-pub take_places-requires-clause-places_in_bounds : goal.take_places-requires-clause-places_in_bounds
-take_places-requires-clause-places_in_bounds c = let W = (room _ _ c.requires).within in (omega (arith, W), omega (arith, W))
+pub take_places-requires : goal.take_places-requires
+take_places-requires c = let W = (room _ _ c.args.parts.now.parted).within in (omega (arith, W), omega (arith, W))
 
 pub returns-then-not-take_places : goal.returns-then-not-take_places
-returns-then-not-take_places c = places_fail _ c.args.counts.places (room _ _ c.requires).places (sym c.take_places.ensures.value ∙ c.if-not-take_places.true)
+returns-then-not-take_places c = places_fail _ c.args.parts.now.counts.places (room _ _ c.args.parts.now.parted).places (sym c.take_places.ensures.value ∙ c.if-not-take_places.true)
 
 pub slice_bounds-cells-end : goal.slice_bounds-cells-end
 slice_bounds-cells-end c = omega (arith, long (goal.at.slice_bounds-cells-end c).After-take_places)

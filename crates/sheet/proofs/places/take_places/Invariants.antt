@@ -7,7 +7,7 @@ use Rattle.sheet.proofs.Placed.{Placed}
 use Rattle.sheet.proofs.places.take_places.Given as goal
 
 abbrev pub invariant-loop-i : goal.invariant-loop-i
-invariant-loop-i l = (l.i ≤ l.i-end) × (length l.cells ≡ length l.initial.cells) × (length l.numbers ≡ length l.initial.numbers) × Placed (map_of l.sheet) l.i l.cells l.numbers
+invariant-loop-i l = (l.i ≤ l.i-end) × (length l.cells ≡ length l.initial.cells) × (length l.numbers ≡ length l.initial.numbers) × Placed (map_of l.parts.bytes.now) l.i l.cells l.numbers
 
 abbrev pub decreases-loop-i : goal.decreases-loop-i
 decreases-loop-i l = l.i-end - l.i

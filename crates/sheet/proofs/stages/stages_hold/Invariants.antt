@@ -7,7 +7,7 @@ use Rattle.sheet.proofs.Staged.{Staged}
 use Rattle.sheet.proofs.stages.stages_hold.Given as goal
 
 abbrev pub invariant-loop-i : goal.invariant-loop-i
-invariant-loop-i l = (l.i ≤ l.stages) × (length l.leaving ≡ length l.initial.leaving) × Staged (map_of l.sheet) l.i l.from l.initial.leaving l.leaving
+invariant-loop-i l = (l.i ≤ l.i-end) × (length l.leaving ≡ length l.initial.leaving) × Staged (map_of l.parts.bytes.now) l.i l.from l.initial.leaving l.leaving
 
 abbrev pub decreases-loop-i : goal.decreases-loop-i
-decreases-loop-i l = l.stages - l.i
+decreases-loop-i l = l.i-end - l.i
