@@ -72,6 +72,7 @@ pub fn blocks_hold(parts: &Parts, leaving: &[u32]) -> bool
     let at = blocks_at(parts.counts);
     // where the block before ends, as place × SPAN + code
     let mut from = 0;
+    // by index, see `take_places`
     for i in 0..parts.counts.blocks {
         let block = read_block(parts.bytes, at, i);
         if !block_holds(block, parts.counts.places, leaving) {

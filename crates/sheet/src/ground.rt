@@ -6,7 +6,7 @@ use paper::Counts;
 
 // Bytes that begin with whole sections of places, stages and blocks.
 #[derive(Clone, Copy)]
-pub(crate) struct Parts<'a> {
+pub struct Parts<'a> {
     pub bytes: &'a [u8],
     pub counts: Counts,
     pub ghost parted: { Parted bytes.now counts },

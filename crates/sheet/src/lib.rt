@@ -16,8 +16,7 @@ ghost use Rattle.paper.specs.Sheet.{word as word_of};
 ghost use Rattle.sheet.specs.Laid.{Sectioned, Within, stages_from, blocks_from, offices_from, list_from, laid_of};
 
 pub use blocks::Block;
-use ground::Parts;
-pub use ground::{Chart, Ground, Mapped, Sheet};
+pub use ground::{Chart, Ground, Mapped, Parts, Sheet};
 use paper::sizes::{BLOCK_WORDS, MOST_PLACES, PLACE_WORDS, STAGE_WORDS, WORD_BYTES};
 use paper::{Counts, Refusal};
 

@@ -34,7 +34,7 @@ impl<'a> Mapped<'a> {
         }
     }
 
-    // The road book: where the stages of each place begin, and their tails, heads and lengths.
+    // The road book: where the stages of each place begin, and their tails, heads and lengths. In four slices, see `Chart`.
     pub fn road_book(
         &self,
         first: &mut [u32],

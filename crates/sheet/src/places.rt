@@ -44,6 +44,7 @@ fn place_holds(cell: Cell, gazetteer: u32) -> bool
 }
 
 // Whether each place holds; if so, the slices have the cell of each as one number, and its gazetteer number.
+// By index: a place, a stage and a block are words of the bytes, and there is no slice of records to go through.
 fn take_places(parts: &Parts, cells: &mut [u32], numbers: &mut [u32]) -> bool
     requires { (parts.now.counts.places ≤ length cells.old) × (parts.now.counts.places ≤ length numbers.old) }
     ensures value { result ≡ every parts.now.counts.places (place_holds (map_of parts.now.bytes.now)) }
@@ -62,7 +63,7 @@ fn take_places(parts: &Parts, cells: &mut [u32], numbers: &mut [u32]) -> bool
 }
 
 // Whether each place holds, no two share a cell, and no two a gazetteer number.
-pub(crate) fn places_hold(parts: &Parts) -> bool
+pub fn places_hold(parts: &Parts) -> bool
     ensures { result ≡ places_hold (map_of parts.now.bytes.now) }
 {
     let places = parts.counts.places;

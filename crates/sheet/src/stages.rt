@@ -55,6 +55,7 @@ pub fn stages_hold(parts: &Parts, leaving: &mut [u32]) -> bool
     let at = stages_at(parts.counts);
     // one more than the stage before, as tail × SPAN + head
     let mut from = 0;
+    // by index, see `take_places`
     for i in 0..parts.counts.stages {
         let stage = read_stage(parts.bytes, at, i);
         if !stage_holds(stage, parts.counts.places) {
