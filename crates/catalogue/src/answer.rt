@@ -66,7 +66,7 @@ fn list_lines(sheet: &Sheet, quest: Quest, k: usize, answer: &mut [u8]) -> Resul
     let mut lines = [0u64; LINES];
     let mut slots = [0u64; SLOTS];
     let walked = walk_mapped(sheet, quest, k, &mut lines, &mut slots);
-    put_longs(answer, &lines, LINE_WORDS * k);
+    put_longs(answer, &lines[..LINE_WORDS * k]);
     walked
 }
 

@@ -1,5 +1,5 @@
 // Words written into the host's bytes, low byte first.
-ghost use Rattle.std.specs.Prelude.{◌≡◌, List, ℕ, ◌+◌, ◌*◌, ◌≤◌, ◌<◌, length, take};
+ghost use Rattle.std.specs.Prelude.{◌≡◌, List, ℕ, ◌+◌, ◌*◌, ◌≤◌, ◌<◌, length};
 ghost use Rattle.paper.specs.Sizes.{word_bytes, long_bytes, most_places};
 ghost use Rattle.paper.specs.Words.{bytes_of, written};
 ghost use Rattle.text.specs.Put.{Put};
@@ -23,12 +23,12 @@ pub fn put_long(bytes: &mut [u8], at: usize, x: u64)
     bytes[at..at + LONG_BYTES].copy_from_slice(&x.to_le_bytes());
 }
 
-// The first n words of 64 bits.
-pub fn put_longs(bytes: &mut [u8], words: &[u64], n: usize)
-    requires { (n ≤ length words.now) × (long_bytes * n ≤ length bytes.old) }
-    ensures { bytes.new ≡ written long_bytes (take n words.now) bytes.old }
+// The words of 64 bits, from the first byte on.
+pub fn put_longs(bytes: &mut [u8], words: &[u64])
+    requires { long_bytes * length words.now ≤ length bytes.old }
+    ensures { bytes.new ≡ written long_bytes words.now bytes.old }
 {
-    for (i, &word) in words[..n].iter().enumerate() {
+    for (i, &word) in words.iter().enumerate() {
         put_long(bytes, LONG_BYTES * i, word);
     }
 }

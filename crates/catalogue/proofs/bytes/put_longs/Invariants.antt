@@ -6,4 +6,4 @@ use Rattle.paper.specs.Words.{written}
 use Rattle.catalogue.proofs.bytes.put_longs.Given as goal
 
 abbrev pub invariant-loop-i : goal.invariant-loop-i
-invariant-loop-i l = l.bytes ≡ written long_bytes (take l.i l.word-items) l.initial.bytes
+invariant-loop-i l = l.bytes ≡ written long_bytes (take l.i l.words) l.initial.bytes
