@@ -70,7 +70,7 @@ fn list_lines(sheet: &Sheet, quest: Quest, k: usize, answer: &mut [u8]) -> Resul
     walked
 }
 
-// The question on a map that is read off the bytes and keeps the rules, over a list of offices, before its counts are written.
+// The question on a map that is read off the bytes and keeps the rules, over a list of offices, before its counts are written. See `ask` of nearest.
 pub fn ask(
     sheet: &Sheet,
     q: u32,

@@ -10,7 +10,7 @@ ghost use Rattle.paper.specs.Reply.{ListsNearest, RefinesThriftily};
 ghost use Rattle.paper.specs.Host.{HostChecked, host_reply, HostValid, read_back};
 ghost use Rattle.catalogue.specs.Handed.{handed};
 
-// `atlas_check` of the crate catalogue.
+// `atlas_check` of the crate catalogue. It stands twice since a crate is a library or an archive for C.
 #[unsafe(no_mangle)]
 pub extern "C" fn atlas_check(sheet: &[u8], distances: &mut [u8]) -> u32
     ensures rules { HostChecked sheet.now distances.old result distances.new }

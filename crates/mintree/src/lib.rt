@@ -1,6 +1,7 @@
 // The least of n words under changes of single words, inside one slice that the caller lends. It is a tournament: the words stand at
 // words[n .. 2 n], and words[p], for each node p of 1 .. n, is the lesser of those at 2 p and 2 p + 1. words[0] and what lies behind the
-// 2 n words are not used. To know whose word is the least, a caller packs the index into it, below the key.
+// 2 n words are not used. To know whose word is the least, a caller packs the index into it, below the key. n is a parameter, since callers lend
+// the rest of a longer slice: one of the tree alone would put half a length into every clause, and a cut at each call.
 #![tactic(auto)]
 
 ghost use Rattle.std.specs.Prelude.{◌+◌, ◌<◌, set};

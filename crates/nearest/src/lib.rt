@@ -99,7 +99,8 @@ pub fn walk_mapped(
     errand.walk(k, answer, working)
 }
 
-// The question on a map that is read off the bytes and keeps the rules, over a list of offices.
+// The question on a map that is read off the bytes and keeps the rules, over a list of offices. The catalogue has its own, whose list and working slice are
+// bytes and which tests a third slice: what differs is most of it.
 fn ask(
     sheet: &Sheet,
     q: u32,

@@ -22,7 +22,7 @@ pub struct Lead {
     pub clear: bool,
 }
 
-// Takes the leader out of the tree, so that the least word left is that of the leader of the rest.
+// Takes the leader out of the tree, so that the least word left is that of the leader of the rest. The tree stands behind the other words of n offices.
 pub fn take_leader(working: &mut [u64], n: usize) -> Lead
     requires { SomeWaits n working.old }
     ensures beyond { Beyond (slot_words * n) working.old working.new }

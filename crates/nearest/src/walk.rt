@@ -95,7 +95,8 @@ impl<'a> Errand<'a> {
         Ok(())
     }
 
-    // One step: the leader is listed, or refined once and nobody is listed.
+    // One step: the leader is listed, or refined once and nobody is listed. That some map has the chart is asked here and not kept by `Errand`: it is a map
+    // with a proof, and a type keeps propositions.
     fn advance(&self, working: &mut [u64]) -> Result<Option<(usize, Trail)>, Refusal>
         requires charted { SomeMap self.now.chart }
         requires waiting { Waiting (places self.now) (offices self.now) working.old }

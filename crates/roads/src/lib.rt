@@ -38,7 +38,7 @@ fn onward(d: Network, stage: Network) -> Network
 }
 
 // The stages into each place as a chain: last[w] is one more than the number of the last stage into w, and previous[i] than that of the
-// one before i into the same place; 0 where there is none.
+// one before i into the same place; 0 where there is none. The n places are the first of slices that may be longer, here and below.
 pub fn chain(heads: &[u32], n: usize, last: &mut [u32], previous: &mut [u32])
     requires { Chainable heads.now n last.old previous.old }
     ensures { Chained heads.now n last.old previous.old last.new previous.new }

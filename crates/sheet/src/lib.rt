@@ -30,7 +30,8 @@ pub fn word(sheet: &[u8], i: usize) -> u32
     u32::from_le_bytes([sheet[at], sheet[at + 1], sheet[at + 2], sheet[at + 3]])
 }
 
-// The word at which the count of stages stands.
+// The word at which the count of stages stands. That counts are within their limits is asked of these functions one by one, since they serve counts that are
+// read before it is known whether the sections fit.
 pub fn stages_at(counts: Counts) -> usize
     requires { Within counts }
     ensures { result ≡ stages_from counts }

@@ -1,4 +1,5 @@
 // What the program prints, written into a lent slice of bytes: each function writes one text and returns the position after it.
+// A text has its position, and not a part of the slice for itself: for that each call would split the slice, and add up where the text ends.
 // By hand: of the library's writers, `write!` promises its bytes to a `Vec` alone, which needs a heap, and of a slice it says nothing.
 #![tactic(auto)]
 
@@ -106,6 +107,7 @@ fn put_bytes(out: &mut [u8], at: usize, text: &[u8]) -> usize
     end
 }
 
+// Any number has a text, those that are no refusal of the core too: so it is a number and no `Refusal`.
 pub fn put_refusal(out: &mut [u8], at: usize, number: u32) -> usize
     requires { at + length (refusal_text number) ≤ length out.old }
     ensures { Written at (refusal_text number) out.old out.new result }

@@ -125,7 +125,7 @@ fn checked(rt: &impl Print, name: &str, sheet: &[u8]) -> io::Result<()> {
     due(rt, name, check(sheet, &mut distances).err())
 }
 
-// The words of so many answer lines.
+// The words of so many answer lines. Taken by the iterator: the check does not find alone that a slice of so many lies within.
 fn list(rt: &impl Print, answer: &[u64], words: usize) -> io::Result<()> {
     for (i, &word) in answer.iter().take(words).enumerate() {
         let before = if i % LINE_WORDS == 0 { "; " } else { " " };

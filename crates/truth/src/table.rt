@@ -8,6 +8,7 @@ ghost use Rattle.std.proofs.Common.{arith, length-append, length-drop};
 use crate::slices::store_column;
 
 // A way to keep words in a lent slice of U: `held` are the words that stand whole in it, `written` is the slice once words are written at its start.
+// A table of n places takes the first n × n; its slice may hold more, and n tells its rows apart.
 pub trait Table<U> {
     ghost held: { List U → List ℕ };
 
