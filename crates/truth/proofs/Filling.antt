@@ -26,7 +26,6 @@ use Rattle.truth.specs.Table.{Stored, all_used}
 use Rattle.truth.specs.Faults.{Fault, Looked, none_below, found_below, number_of_check}
 use Rattle.truth.specs.Roads.{OnSurvey}
 use Rattle.truth.specs.Columns.{JudgedColumn}
-use Rattle.truth.proofs.Finding.{number_fault, number_marks}
 use Rattle.truth.proofs.Progress.{Progress, progress_none, progress_more, end_cut_off, end_judged}
 
 -- v columns are judged, and stand in the table; the column and the marks have room
@@ -125,21 +124,6 @@ module _ (s : Survey) where
         end_cut_off m before table marks (found_below n f) (rw (places-are m S) at long) n v w.0 (places-are m S) (F.progress m S) w.1 more w.2 l e
 
     -- every column is judged
-    filling-all : (r : ℕ) → n * n ≤ length before → n ≤ v → r ≡ number_of_check n s.chart.ground.counts.blocks marks (found_below n f) → (m : Map) → OnSurvey s m → CheckedOn 0 m before r table
+    pub filling-all : (r : ℕ) → n * n ≤ length before → n ≤ v → r ≡ number_of_check n s.chart.ground.counts.blocks marks (found_below n f) → (m : Map) → OnSurvey s m → CheckedOn 0 m before r table
     filling-all r long all e m S =
         end_judged m before table marks (found_below n f) (rw (places-are m S) at long) n v s.chart.ground.counts.blocks r (places-are m S) (blocks-are m S) (omega (arith, F.up_to)) (lawful_laid S.charted.lawful) (F.progress m S) e
-
-    -- some pair is faulty, or none is
-    pub filling-found : (x : code.Fault) → f ≡ Some x → n * n ≤ length before → n ≤ v → (m : Map) → OnSurvey s m → CheckedOn 0 m before (number_of x.refusal) table
-    filling-found x is long all = filling-all _ long all (go f is F.fault_in)
-      where
-        go : (r : Option code.Fault) → r ≡ Some x → IfSome r (λ y. y.place < n) → number_of x.refusal ≡ number_of_check n s.chart.ground.counts.blocks marks (found_below n r)
-        go None e h = cc
-        go (Some y) e h = let same : y ≡ x = cc in rw (← same) (number_fault n s.chart.ground.counts.blocks marks (found_below n (Some y)) h)
-
-    pub filling-clean : f ≡ None → (r : ℕ) → r ≡ due (all_used s.chart.ground.counts.blocks marks) 15 → n * n ≤ length before → n ≤ v → (m : Map) → OnSurvey s m → CheckedOn 0 m before r table
-    filling-clean is r e long all = filling-all r long all (e ∙ go f is)
-      where
-        go : (x : Option code.Fault) → x ≡ None → due (all_used s.chart.ground.counts.blocks marks) 15 ≡ number_of_check n s.chart.ground.counts.blocks marks (found_below n x)
-        go None h = number_marks n s.chart.ground.counts.blocks marks (none_below n) (omega arith) _ refl
-        go (Some y) h = cc

@@ -5,18 +5,19 @@ use native.Mathlib.Numerals.{add-one}
 use mathlib.Core.Path.{◌≡◌, refl, sym, ap, ◌∙◌}
 use mathlib.Core.Bool.{Bool, true, false, not}
 use mathlib.Core.List.{List}
-use lib.Dec.{eqb}
+use lib.Dec.{eqb, ltb}
 use lib.ListN.{length, get_or, take}
 use lib.Seq.{take-length}
 use Rattle.std.specs.Prelude.{◌||◌, ◌&&◌}
 use Rattle.std.specs.List.{list_any, list_all}
 use Rattle.std.proofs.lemmas.List.Folds.{list_any_more, list_all_more}
 use borrow.Author.Tests.{eqb-true, eq-eqb, not-true, not-false}
-use Rattle.paper.specs.Test.{both, either, every, any}
+use Rattle.paper.specs.Test.{both, due, either, every, any}
 use Rattle.paper.specs.Map.{Map}
 use Rattle.paper.specs.Road.{Road, IsD}
 use Rattle.paper.proofs.Test.{true_false, any_true, any_of}
 use Rattle.roads.specs.Towards.{far, Towards}
+use Rattle.truth.specs.Faults.{Fault, number_of_check}
 use Rattle.truth.specs.Roads.{Reached}
 use Rattle.truth.specs.Table.{used, all_used}
 
@@ -62,6 +63,10 @@ every_all p l = rw (take-length l) at (every_taken p l (length l) (omega arith))
 -- the first n marks as a slice of their own
 pub used_taken : (n : ℕ) (l : List ℕ) → n ≤ length l → all_used (length (take n l)) (take n l) ≡ all_used n l
 used_taken n l h = sym (every_all (λ b. eqb b used) (take n l)) ∙ every_taken (λ b. eqb b used) l n h
+
+pub check_taken : (places n : ℕ) (l : List ℕ) (f : Fault) → n ≤ length l → number_of_check places (length (take n l)) (take n l) f ≡ number_of_check places n l f
+unfolding number_of_check
+check_taken places n l f h = ap (λ (b : Bool). elim (ltb f.place places) [ true ↦ f.number | false ↦ due b 15 ]) (used_taken n l h)
 
 -- the look through a column tells whether each place has a road to v
 pub reached : (m : Map) (n v : ℕ) (column : List ℕ) → Towards m n v (λ u. get_or column u 0) → (cut : Bool) → cut ≡ any n (λ u. eqb (get_or column u 0) far)

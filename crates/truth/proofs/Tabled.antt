@@ -16,10 +16,10 @@ use Rattle.paper.specs.Slice.{cleared}
 use Rattle.truth.specs.declared.pairs.Fault as code
 use Rattle.truth.specs.declared.known.Survey.{Survey}
 use Rattle.truth.specs.Table.{StoredIn, CheckedIn, all_used}
-use Rattle.truth.specs.Faults.{found_below}
+use Rattle.truth.specs.Faults.{found_below, number_of_check}
 use Rattle.truth.specs.Roads.{OnSurvey}
 use Rattle.truth.specs.Columns.{JudgedColumn}
-use Rattle.truth.proofs.Filling.{Filling, Room, filling_none, filling-room, filling-more, filling-cut, filling-found, filling-clean}
+use Rattle.truth.proofs.Filling.{Filling, Room, filling_none, filling-room, filling-more, filling-cut, filling-all}
 
 -- v columns are judged, and stand in the words that the slice holds
 pub record FillingIn {U : Type 0} (held : List U → List ℕ) (written : List ℕ → List U → List U) (s : Survey) (before after : List U) (marks col : List ℕ) (f : Option code.Fault) (v : ℕ) : Type 0 where
@@ -62,8 +62,5 @@ module _ {U : Type 0} (held : List U → List ℕ) (written : List ℕ → List 
       there = e F.words before words-long F.filling.size F.there;
     }
 
-    pub filling_in_found : (x : code.Fault) → f ≡ Some x → n ≤ v → (m : Map) → OnSurvey s m → CheckedIn held written 0 m before (number_of x.refusal) after
-    filling_in_found x is all m S = record { words = F.words; checked = filling-found s F.filling x is long all m S; there = F.there }
-
-    pub filling_in_clean : f ≡ None → (r : ℕ) → r ≡ due (all_used s.chart.ground.counts.blocks marks) 15 → n ≤ v → (m : Map) → OnSurvey s m → CheckedIn held written 0 m before r after
-    filling_in_clean is r e all m S = record { words = F.words; checked = filling-clean s F.filling is r e long all m S; there = F.there }
+    pub filling_in_all : (r : ℕ) → r ≡ number_of_check n s.chart.ground.counts.blocks marks (found_below n f) → n ≤ v → (m : Map) → OnSurvey s m → CheckedIn held written 0 m before r after
+    filling_in_all r e all m S = record { words = F.words; checked = filling-all s F.filling r long all e m S; there = F.there }

@@ -1,11 +1,10 @@
 // The check, column by column: the road distances to each place, and the pairs that it ends. Who keeps the table stores each column as it comes.
-ghost use Rattle.std.specs.Prelude.{◌≡◌, ◌*◌, ◌≤◌, ◌<◌, length, IfOk, IfSome};
+ghost use Rattle.std.specs.Prelude.{◌≡◌, ℕ, ◌*◌, ◌≤◌, ◌<◌, length, IfOk, IfSome};
 ghost use Rattle.paper.specs.Refusal.{number};
 ghost use Rattle.paper.specs.Map.{Map};
 ghost use Rattle.paper.specs.Sheet.{map_of};
-ghost use Rattle.paper.specs.Test.{due};
-ghost use Rattle.truth.specs.Table.{all_used, CheckedIn};
-ghost use Rattle.truth.specs.Faults.{found_below};
+ghost use Rattle.truth.specs.Table.{CheckedIn};
+ghost use Rattle.truth.specs.Faults.{found_below, number_of_check};
 ghost use Rattle.truth.specs.Roads.{OnRoads, OnSurvey, Reached};
 ghost use Rattle.truth.specs.Columns.{ColumnIs};
 
@@ -54,10 +53,13 @@ fn below(fault: Option<Fault>, places: usize) -> usize
     }
 }
 
-// What is due once all pairs are gone through and none is faulty: 15 for a block that no pair marked.
-pub fn final_number(marks: &[u8]) -> Result<(), Refusal>
-    ensures { number result ≡ due (all_used (length marks.now) marks.now) 15 }
+// What is due once all pairs are gone through: that of the first faulty one, then 15 for a block that no pair marked.
+pub fn final_number(marks: &[u8], fault: Option<Fault>) -> Result<(), Refusal>
+    ensures { (places : ℕ) → IfSome fault (λ f. f.place < places) → number result ≡ number_of_check places (length marks.now) marks.now (found_below places fault) }
 {
+    if let Some(found) = fault {
+        return Err(found.refusal);
+    }
     if !all_marked(marks) {
         return Err(Refusal::UselessBlock);
     }
@@ -85,8 +87,5 @@ pub fn columns<U, T: Table<U>>(survey: &Survey, table: &mut [U]) -> Result<(), R
         }
         T::store_column(table, places, v, &column);
     }
-    if let Some(found) = fault {
-        return Err(found.refusal);
-    }
-    final_number(&marks[..survey.chart.ground.counts.blocks])
+    final_number(&marks[..survey.chart.ground.counts.blocks], fault)
 }

@@ -1,10 +1,10 @@
 -- `truth::columns::columns` meets its contract. The invariant is `FillingIn`: the first v columns are judged, and stand in the table.
-use mathlib.Core.Path.{sym}
+use mathlib.Core.Path.{sym, ◌∙◌}
 use native.Mathlib.Omega.{arith}
 use lib.Seq.{length-take-le}
-use Rattle.truth.proofs.Scans.{used_taken}
+use Rattle.truth.proofs.Scans.{check_taken}
 use Rattle.truth.proofs.Filling.{place_in}
-use Rattle.truth.proofs.Tabled.{filling_in_none, filling_in_room, filling_in_long, filling_in_more, filling_in_cut, filling_in_found, filling_in_clean}
+use Rattle.truth.proofs.Tabled.{filling_in_none, filling_in_room, filling_in_long, filling_in_more, filling_in_cut, filling_in_all}
 use Rattle.truth.proofs.columns.columns.Goals as goal
 
 pub loop-v-init : goal.loop-v-init
@@ -33,9 +33,6 @@ loop-v-preserved g c =
     let below = c.below-end.ensures in
     rw c.or-fault.ensures (filling_in_more _ _ _ c.requires.room c.loop-v.invariant _ _ _ _ c.loop-v-test.true (rw below at c.in-Ok.ensures.within) (rw below at c.in-Ok.ensures.column) c.store_column.ensures c.judge_column.auto.column c.judge_column.auto.marks)
 
-pub returns-in-Some : goal.returns-in-Some
-returns-in-Some g c = filling_in_found _ _ _ c.requires.room c.loop-v.invariant _ c.in-Some.is c.loop-v-test.false
-
 pub slice_bounds-marks-end : goal.slice_bounds-marks-end
 slice_bounds-marks-end g c = (filling_in_room _ _ _ c.requires.room c.loop-v.invariant).marks_room
 
@@ -45,4 +42,4 @@ slice_bounds-final_number-end g c = sym (length-take-le _ _ (filling_in_room _ _
 pub returns : goal.returns
 returns g c =
     let R = filling_in_room _ _ _ c.requires.room c.loop-v.invariant in
-    filling_in_clean _ _ _ c.requires.room c.loop-v.invariant c.in_default.is _ (rw (used_taken _ _ R.marks_room) at c.final_number.ensures) c.loop-v-test.false
+    filling_in_all _ _ _ c.requires.room c.loop-v.invariant _ (c.final_number.ensures _ c.loop-v.invariant.filling.fault_in ∙ check_taken _ _ _ _ R.marks_room) c.loop-v-test.false
