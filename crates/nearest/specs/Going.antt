@@ -12,16 +12,9 @@ use Rattle.paper.specs.Trail.{Trail, start}
 use Rattle.paper.specs.Listing.{Slot, Line, State, at, leader, clear, retired, refined, listed, walked_on, step, starts}
 use Rattle.paper.specs.Reply.{line_out, lines_out}
 use Rattle.paper.specs.Bounds.{Sane}
-use Rattle.sheet.specs.Charts.{OnChart}
-use Rattle.sheet.specs.declared.ground.Chart.{Chart}
 use Rattle.nearest.specs.Working.{tree_at, key, Stored, Shown, Beyond}
 use Rattle.quadtree.specs.Walks.{trail_of}
 use Rattle.nearest.specs.declared.tree.Lead.{Lead}
-
--- some map has the chart: without one a walk need not come to an end
-pub record SomeMap (c : Chart) : Type 0 where
-  pub map : Map
-  pub on : OnChart c map
 
 -- line r of the answer slice becomes l
 pub record Wrote (r : ℕ) (l : Line) (a a' : List ℕ) : Type 0 where

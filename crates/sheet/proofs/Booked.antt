@@ -1,16 +1,13 @@
 -- The road book while it is filled, and that where the stages of a place begin is what the paper says.
-use Prim.Native.Nat.{ℕ, ◌+◌, ◌*◌, ◌≤◌, ◌<◌}
+use Prim.Native.Nat.{ℕ, ◌+◌, ◌-◌, ◌*◌, ◌≤◌, ◌<◌}
 use native.Mathlib.Omega.{arith}
-use native.Mathlib.Decide.{ℕ_discrete, dec_lt}
-use mathlib.Core.Path.{◌≡◌, ◌∙◌}
-use mathlib.Core.Bool.{true, false}
+use native.Mathlib.Decide.{dec_lt}
+use mathlib.Core.Path.{◌≡◌, refl, ◌∙◌}
+use mathlib.Core.Bool.{true}
 use mathlib.Core.List.{List, ◌++◌}
-use lib.Dec.{ltb}
-use lib.ListN.{length, get_or, replicate, length-append, length-replicate}
+use lib.ListN.{length, get_or, drop, replicate, length-append, length-replicate, length-drop}
 use Rattle.std.proofs.Math.ListN.{get_or-append}
-use borrow.Author.Tests.{ltb-true, ltb-false}
-use Rattle.std.specs.List.Sorted.{IsPartitionPoint, IsPartitionedBy}
-use Rattle.std.proofs.lemmas.List.Sorted.{IsPartitionedBy-ltb, IsNonDecreasingBy-from_default}
+use Rattle.std.proofs.lemmas.List.{get_or-drop}
 use Rattle.paper.specs.declared.Counts.{Counts}
 use Rattle.paper.specs.Map.{Map}
 use Rattle.paper.specs.Stage.{stages_below, stage_of}
@@ -22,16 +19,16 @@ use Rattle.paper.proofs.Stages.{Parts, begins}
 use Rattle.sheet.specs.Book.{Holds, Leads, Book, Begins, Ascending, Roomy}
 use Rattle.sheet.specs.Laid.{Within}
 
--- what `partition_point` asks of tails, and what it answers
-module _ (tails : List ℕ) (u : ℕ) where
-  pub parted_by : Ascending tails (length tails) → IsPartitionedBy (λ t. ltb t u) tails
-  parted_by up = IsPartitionedBy-ltb (λ t. t) _ u (IsNonDecreasingBy-from_default (λ t. t) _ 0 (λ i j q r. elim (ℕ_discrete i j) [ yes e ↦ rw e (omega arith) | no e ↦ up i j (omega arith) r ]))
+-- what parts the tails from i on parts them all, where those before i are below u
+module _ (tails : List ℕ) (u i : ℕ) (upto : i ≤ length tails) (below : (k : ℕ) → k < i → get_or tails k 0 < u) where
+  at : (k : ℕ) → i ≤ k → get_or (drop i tails) (k - i) 0 ≡ get_or tails k 0
+  at k p = let e : i + (k - i) ≡ k = omega arith in get_or-drop i tails (k - i) 0 ∙ rw e refl
 
-  pub begins_by : (b : ℕ) → b ≤ length tails → IsPartitionPoint (λ t. ltb t u ≡ true) (λ t. ltb t u ≡ false) tails b → Begins tails (length tails) u b
-  begins_by b q point = record {
-    most = q;
-    low = λ i l. ltb-true _ _ (point.0 i 0 (omega arith) l);
-    high = λ i l m. ltb-false _ _ (point.1 i 0 l m);
+  pub begins_on : (b : ℕ) → Begins (drop i tails) (length (drop i tails)) u b → Begins tails (length tails) u (i + b)
+  begins_on b B = record {
+    most = omega (arith, upto, B.most, length-drop i tails);
+    low = λ k p. elim (dec_lt k i) [ yes q ↦ below k q | no q ↦ omega (arith, B.low (k - i) (omega arith), at k (omega arith)) ];
+    high = λ k p q. omega (arith, B.high (k - i) (omega arith) (omega (arith, length-drop i tails)), at k (omega arith));
   }
 
 -- what parts the tails of a map is where the stages begin

@@ -17,23 +17,28 @@ pub fn column(sheet: &[u8], base: usize, out: &mut [u32])
     }
 }
 
-// Where the stages that leave the place u begin, by the tails, which ascend. The call is kept: in the caller's loop the compiler would go through several
-// places at once where there is one stage, by constants of its own, and a handset has little room for constants.
+// Where the stages that leave the place u begin, by the tails, which ascend: one way through those below u. The call is kept: in the caller's loop the
+// compiler would go through several places at once where there is one stage, by constants of its own, and a handset has little room for constants.
 #[inline(never)]
 fn first_from(tails: &[u32], u: usize) -> usize
     requires { Ascending tails.now (length tails.now) }
     ensures { Begins tails.now (length tails.now) u result }
 {
-    tails.partition_point(|&tail| (tail as usize) < u)
+    tails
+        .iter()
+        .take_while(|&&tail| (tail as usize) < u)
+        .count()
 }
 
-// The same for each place.
+// The same for each place: each goes on where the place before ended, so that all go through the tails once.
 pub fn starts(tails: &[u32], first: &mut [u32])
     requires few { length tails.now ≤ most_stages }
     requires ascending { Ascending tails.now (length tails.now) }
     ensures { (u : ℕ) → u < length first.new → Begins tails.now (length tails.now) u (get_or first.new u 0) }
 {
+    let mut i = 0;
     for (u, begin) in first.iter_mut().enumerate() {
-        *begin = first_from(tails, u) as u32;
+        i += first_from(&tails[i..], u);
+        *begin = i as u32;
     }
 }
