@@ -58,9 +58,11 @@ impl<'a> Errand<'a> {
         start(&self.chart.ground, from, to)
     }
 
-    // The trail t of office i after one refinement, on any map that has the chart.
+    // The trail t of office i after one refinement, on any map that has the chart. That there is one is asked, by what calls this too, and not kept by
+    // `Errand`: it is a map with a proof, and a type keeps propositions.
     fn next_trail(&self, i: usize, t: Trail) -> Result<Trail, Refusal>
-        requires { (i < offices self.now) × (Sane (places self.now) (trail_of t)) }
+        requires charted { SomeMap self.now.chart }
+        requires i_lt_offices { (i < offices self.now) × (Sane (places self.now) (trail_of t)) }
         ensures { (m : Map) → OnChart self.now.chart m → served_as trail_of result ≡ refine_of m ((asked self.now).to i) (trail_of t) }
     {
         let place = self.stand(i);
@@ -95,8 +97,7 @@ impl<'a> Errand<'a> {
         Ok(())
     }
 
-    // One step: the leader is listed, or refined once and nobody is listed. That some map has the chart is asked here and not kept by `Errand`: it is a map
-    // with a proof, and a type keeps propositions.
+    // One step: the leader is listed, or refined once and nobody is listed.
     fn advance(&self, working: &mut [u64]) -> Result<Option<(usize, Trail)>, Refusal>
         requires charted { SomeMap self.now.chart }
         requires waiting { Waiting (places self.now) (offices self.now) working.old }

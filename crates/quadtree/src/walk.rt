@@ -7,7 +7,7 @@ ghost use Rattle.paper.specs.Sheet.{map_of};
 ghost use Rattle.paper.specs.Cell.{cell};
 ghost use Rattle.paper.specs.Trail.{start as start_of, refine as refine_of, tested as tested_of};
 ghost use Rattle.paper.specs.Bounds.{Sane, Summed};
-ghost use Rattle.sheet.specs.Charts.{OnChart};
+ghost use Rattle.sheet.specs.Charts.{OnChart, SomeMap};
 ghost use Rattle.quadtree.specs.Walks.{trail_of, ends_as, ahead, walked_to};
 
 use crate::blocks::block_of;
@@ -83,9 +83,11 @@ fn walked_to(
     tested(onward(t, via, length, next))
 }
 
-// One refinement of the trail t towards v, on any map that has the chart.
+// One refinement of the trail t towards v, on any map that has the chart. That there is one is asked, since
+// nothing is said of a chart that no map has.
 pub fn refine(chart: &Chart, v: usize, t: Trail) -> Result<Trail, Refusal>
-    requires { (v < chart.now.ground.counts.places) × (Sane chart.now.ground.counts.places (trail_of t)) }
+    requires charted { SomeMap chart.now }
+    requires v_lt_places { (v < chart.now.ground.counts.places) × (Sane chart.now.ground.counts.places (trail_of t)) }
     ensures { (m : Map) → OnChart chart.now m → served_as trail_of result ≡ refine_of m v (trail_of t) }
 {
     let ground = &chart.ground;

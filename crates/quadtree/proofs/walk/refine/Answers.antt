@@ -21,7 +21,7 @@ use Rattle.quadtree.proofs.walk.refine.Goals as goal
 -- the place and the trail are within the places of a map that has the ground
 module _ (c : After-block_of) (m : Map) (S : SameGround m (map_of c.args.chart.now.ground.bytes.now)) where
   within : (c.args.v < m.places) × (c.args.t.via < m.places)
-  within = omega (arith, c.requires, (standing c.args.chart.now.ground.keeps).places, S.places)
+  within = omega (arith, c.requires.v_lt_places, (standing c.args.chart.now.ground.keeps).places, S.places)
 
   -- what the search found is what the definition finds
   found : (r : Option ℕ) → c.block_of.result ≡ r → r ≡ cover_of (block_of m c.args.t.via c.args.v)
@@ -41,7 +41,7 @@ pub returns-then-ground-t : goal.returns-then-ground-t
 returns-then-ground-t c m C = refine_last _ _ _ (omega (arith, c.if-ground-t.true, (standing c.args.chart.now.ground.keeps).places, C.ground.places))
 
 pub block_of-requires : goal.block_of-requires
-block_of-requires c = (c.requires.1.via, cell_lt _ _ _ c.code-code.ensures)
+block_of-requires c = (c.requires.v_lt_places.1.via, cell_lt _ _ _ c.code-code.ensures)
 
 pub offset_bounds-chart-i : goal.offset_bounds-chart-i
 offset_bounds-chart-i c = omega (arith, read (goal.at.offset_bounds-chart-i c).After-stage_of-i)
@@ -58,7 +58,7 @@ bounds-chart-i-in-Some c = omega (arith, read (goal.at.bounds-chart-i-in-Some c)
 pub walked_to-requires : goal.walked_to-requires
 walked_to-requires c =
     let R = read (goal.at.walked_to-requires c).After-stage_of-i in
-    (omega (arith, R.placed, (standing c.args.chart.now.ground.keeps).places), c.requires.0, c.code-code.ensures, c.requires.1, omega (arith, c.if-ground-t.false), omega (arith, R.short, c.into.ensures))
+    (omega (arith, R.placed, (standing c.args.chart.now.ground.keeps).places), c.requires.v_lt_places.0, c.code-code.ensures, c.requires.v_lt_places.1, omega (arith, c.if-ground-t.false), omega (arith, R.short, c.into.ensures))
 
 pub returns-in-Some : goal.returns-in-Some
 returns-in-Some c m C =

@@ -26,8 +26,9 @@ sane c =
 pub returns-then-lead-clause-stepped : goal.returns-then-lead-clause-stepped
 returns-then-lead-clause-stepped c = λ m C st S. advance_listed _ _ _ _ (counted c.args.self.now.chart.ground.keeps C) (roll_count c.args.self.now.roll) st _ _ (c.take_leader-lead.ensures.by_index _ _ S) c.if-lead.true
 
-pub next_trail-requires : goal.next_trail-requires
-next_trail-requires c = let L = waiting (goal.at.next_trail-requires c).After-take_leader-lead in (L.here, L.sane)
+pub next_trail-requires-clause-i_lt_offices :
+    goal.next_trail-requires-clause-i_lt_offices
+next_trail-requires-clause-i_lt_offices c = let L = waiting (goal.at.next_trail-requires-clause-i_lt_offices c).After-take_leader-lead in (L.here, L.sane)
 
 pub returns-in_err-next-clause-stepped : goal.returns-in_err-next-clause-stepped
 returns-in_err-next-clause-stepped c m C st S =
