@@ -25,10 +25,14 @@ number_of NoBlockOnWay = 17
 number_of EmptyInterval = 18
 number_of TooLarge = 20
 
--- the number of an outcome: 0 where nothing is refused
+-- the number of an outcome whose refusal r has the number `value r`: 0 where nothing is refused
+abbrev pub numbered : {A N : Type 0} → (N → ℕ) → Result A N → ℕ
+numbered value (Ok a) = 0
+numbered value (Err r) = value r
+
+-- the same of the code's own refusals
 abbrev pub number : {A : Type 0} → Result A Refusal → ℕ
-number (Ok a) = 0
-number (Err r) = number_of r
+number = numbered number_of
 
 -- an outcome as the definitions have it, and one whose value is f of what the code serves
 abbrev pub came : {A : Type 0} → Result A Refusal → Served A
