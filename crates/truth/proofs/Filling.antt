@@ -20,16 +20,15 @@ use Rattle.paper.proofs.Cleared.{zeros}
 use Rattle.quadtree.proofs.Words.{standing}
 use Rattle.truth.specs.declared.pairs.Fault as code
 use Rattle.truth.specs.declared.known.Survey.{Survey}
-use Rattle.paper.specs.Test.{due}
-use Rattle.paper.specs.Refusal.{number_of}
-use Rattle.truth.specs.Table.{Stored, all_used}
+use Rattle.paper.specs.declared.refusal.Refusal.{Refusal}
+use Rattle.truth.specs.Table.{Stored}
 use Rattle.truth.specs.Faults.{Fault, Looked, none_below, found_below, number_of_check}
 use Rattle.truth.specs.Roads.{OnSurvey}
 use Rattle.truth.specs.Columns.{JudgedColumn}
 use Rattle.truth.proofs.Progress.{Progress, progress_none, progress_more, end_cut_off, end_judged}
 
 -- v columns are judged, and stand in the table; the column and the marks have room
-pub record Filling (s : Survey) (before table marks col : List ℕ) (f : Option code.Fault) (v : ℕ) : Type 0 where
+pub record Filling (s : Survey) (before table marks col : List ℕ) (f : Option (code.Fault Refusal)) (v : ℕ) : Type 0 where
   pub up_to : v ≤ s.roads.places
   pub column_long : length col ≡ most_places
   pub marks_long : length marks ≡ most_blocks
@@ -45,26 +44,26 @@ pub record Room (s : Survey) (marks col : List ℕ) : Type 0 where
   pub marks_room : s.chart.ground.counts.blocks ≤ length marks
 
 -- the first fault of a further column, beside the one that there was
-module _ (f : ℕ → ℕ) (n : ℕ) (old : Option code.Fault) where
-  pub looked_on : (new : Option code.Fault) → Looked f (none_below (found_below n old).place) (found_below (found_below n old).place new) → Looked f (found_below n old) (found_below n (option_or new old))
+module _ (f : ℕ → ℕ) (n : ℕ) (old : Option (code.Fault Refusal)) where
+  pub looked_on : (new : Option (code.Fault Refusal)) → Looked f (none_below (found_below n old).place) (found_below (found_below n old).place new) → Looked f (found_below n old) (found_below n (option_or new old))
   looked_on None L = record { clean = L.clean; found = inl refl }
   looked_on (Some x) L = record { clean = L.clean; found = inr (⊎_elim (λ e. absurd (go e)) (λ w. w) L.found) }
     where
       go : found_below (found_below n old).place (Some x) ≡ none_below (found_below n old).place → ⊥
       go e = omega (arith, number_some x.refusal, ap (λ (f : Fault). f.number) e)
 
-  place_on : (new : Option code.Fault) → (found_below n (option_or new old)).place ≡ (found_below (found_below n old).place new).place
+  place_on : (new : Option (code.Fault Refusal)) → (found_below n (option_or new old)).place ≡ (found_below (found_below n old).place new).place
   place_on None = refl
   place_on (Some x) = refl
 
   pub place_in : IfSome old (λ x. x.place < n) → (found_below n old).place ≤ n
   place_in = go old
     where
-      go : (r : Option code.Fault) → IfSome r (λ x. x.place < n) → (found_below n r).place ≤ n
+      go : (r : Option (code.Fault Refusal)) → IfSome r (λ x. x.place < n) → (found_below n r).place ≤ n
       go None h = omega arith
       go (Some x) h = omega arith
 
-  fault_on : (new : Option code.Fault) → IfSome old (λ x. x.place < n) → IfSome new (λ x. x.place < (found_below n old).place) → IfSome (option_or new old) (λ x. x.place < n)
+  fault_on : (new : Option (code.Fault Refusal)) → IfSome old (λ x. x.place < n) → IfSome new (λ x. x.place < (found_below n old).place) → IfSome (option_or new old) (λ x. x.place < n)
   fault_on None h k = h
   fault_on (Some x) h k = omega (arith, place_in h)
 
@@ -90,7 +89,7 @@ module _ (s : Survey) where
         (omega (arith, blocks-are m S, (standing s.chart.ground.keeps).within.blocks, length-replicate {A = ℕ} most_blocks 0)) (zeros most_blocks);
   }
 
-  module _ {before table marks col : List ℕ} {f : Option code.Fault} {v : ℕ} (F : Filling s before table marks col f v) where
+  module _ {before table marks col : List ℕ} {f : Option (code.Fault Refusal)} {v : ℕ} (F : Filling s before table marks col f v) where
     pub filling-room : Room s marks col
     filling-room =
         let W = (standing s.chart.ground.keeps).within in
@@ -103,7 +102,7 @@ module _ (s : Survey) where
         }
 
     -- a column is judged and stored
-    pub filling-more : (table' marks' col' : List ℕ) (new : Option code.Fault) → v < n → IfSome new (λ x. x.place < (found_below n f).place)
+    pub filling-more : (table' marks' col' : List ℕ) (new : Option (code.Fault Refusal)) → v < n → IfSome new (λ x. x.place < (found_below n f).place)
         → ((m : Map) → OnSurvey s m → JudgedColumn m (map_of s.chart.ground.bytes.now) n v (found_below n f).place new marks col' marks')
         → Stored n v col' table table' → length col' ≡ length col → length marks' ≡ length marks → Filling s before table' marks' col' (option_or new f) (v + 1)
     filling-more table' marks' col' new more within J T e h = record {

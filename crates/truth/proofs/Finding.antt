@@ -8,6 +8,7 @@ use mathlib.Core.List.{List}
 use lib.Dec.{ltb, eqb}
 use lib.ListN.{get_or}
 use borrow.Author.Tests.{ltb-true, ltb-false, lt-ltb, le-ltb, eqb-true, eqb-false}
+use Rattle.std.specs.Prelude.{Option, Some, None, IfSome}
 use Rattle.paper.specs.Test.{due}
 use Rattle.paper.specs.Map.{Map}
 use Rattle.paper.specs.Truth.{Used}
@@ -19,8 +20,9 @@ use Rattle.paper.proofs.Test.{every_true}
 use Rattle.paper.proofs.Verdict.{used_of, verdict_zero, fault-same}
 use Rattle.paper.proofs.Due.{verdict_pair_due, verdict_15}
 use Rattle.truth.proofs.Scans.{every_not}
+use Rattle.truth.specs.declared.pairs.Fault as code
 use Rattle.truth.specs.Table.{used, all_used}
-use Rattle.truth.specs.Faults.{Fault, Looked, number_of_check}
+use Rattle.truth.specs.Faults.{Fault, Looked, found_by, number_of_check}
 use Rattle.truth.proofs.Marking.{Marks}
 
 -- number is due for u and some v below k, and nothing for u and a place before v
@@ -120,12 +122,16 @@ module _ {m : Map} (L : LaidOut m) where
         go true e = sym (by-fault (ltb-true _ _ e))
         go false e = sym (by-marks (ltb-false _ _ e) (all_used m.blocks l) refl)
 
--- the number, test by test
-module _ (places blocks : ℕ) (l : List ℕ) (f : Fault) where
-  pub number_fault : f.place < places → f.number ≡ number_of_check places blocks l f
+-- the number, case by case: of a fault that was found, of marks of every block, of marks that lack one
+module _ {N : Type 0} (value : N → ℕ) (places blocks : ℕ) (l : List ℕ) (fault : Option (code.Fault N)) where
+  pub number_found : (f : code.Fault N) → fault ≡ Some f → IfSome fault (λ f. f.place < places) → value f.refusal ≡ number_of_check places blocks l (found_by value places fault)
   unfolding number_of_check
-  number_fault h = rw (lt-ltb f.place places h, number_of_check)
+  number_found f e h = let p : f.place < places = rw e at h in rw e (rw (lt-ltb f.place places p, number_of_check))
 
-  pub number_marks : places ≤ f.place → (t : Bool) → t ≡ all_used blocks l → due t 15 ≡ number_of_check places blocks l f
+  pub number_marked : fault ≡ None → all_used blocks l ≡ true → 0 ≡ number_of_check places blocks l (found_by value places fault)
   unfolding number_of_check
-  number_marks h t e = rw (le-ltb f.place places h, number_of_check) (ap (λ (x : Bool). due x 15) e)
+  number_marked e t = rw (e, le-ltb places places (omega arith), t, number_of_check)
+
+  pub number_useless : fault ≡ None → all_used blocks l ≡ false → 15 ≡ number_of_check places blocks l (found_by value places fault)
+  unfolding number_of_check
+  number_useless e t = rw (e, le-ltb places places (omega arith), t, number_of_check)

@@ -4,25 +4,24 @@ use native.Mathlib.Omega.{arith}
 use mathlib.Core.Path.{◌≡◌, refl, ap}
 use mathlib.Core.List.{List}
 use lib.ListN.{length, replicate}
-use Rattle.std.specs.Prelude.{Option, Some, None, IfSome}
+use Rattle.std.specs.Prelude.{Option, None, IfSome}
 use Rattle.std.specs.Option.{option_or}
 use Rattle.paper.specs.Sizes.{most_places, most_blocks}
 use Rattle.paper.specs.Map.{Map}
 use Rattle.paper.specs.Sheet.{map_of}
 use Rattle.paper.specs.Road.{Road}
-use Rattle.paper.specs.Test.{due}
-use Rattle.paper.specs.Refusal.{number_of}
+use Rattle.paper.specs.declared.refusal.Refusal.{Refusal}
 use Rattle.paper.specs.Slice.{cleared}
 use Rattle.truth.specs.declared.pairs.Fault as code
 use Rattle.truth.specs.declared.known.Survey.{Survey}
-use Rattle.truth.specs.Table.{StoredIn, CheckedIn, all_used}
+use Rattle.truth.specs.Table.{StoredIn, CheckedIn}
 use Rattle.truth.specs.Faults.{found_below, number_of_check}
 use Rattle.truth.specs.Roads.{OnSurvey}
 use Rattle.truth.specs.Columns.{JudgedColumn}
 use Rattle.truth.proofs.Filling.{Filling, Room, filling_none, filling-room, filling-more, filling-cut, filling-all}
 
 -- v columns are judged, and stand in the words that the slice holds
-pub record FillingIn {U : Type 0} (held : List U → List ℕ) (written : List ℕ → List U → List U) (s : Survey) (before after : List U) (marks col : List ℕ) (f : Option code.Fault) (v : ℕ) : Type 0 where
+pub record FillingIn {U : Type 0} (held : List U → List ℕ) (written : List ℕ → List U → List U) (s : Survey) (before after : List U) (marks col : List ℕ) (f : Option (code.Fault Refusal)) (v : ℕ) : Type 0 where
   pub words : List ℕ
   pub filling : Filling s (held before) words marks col f v
   pub there : after ≡ written words before
@@ -34,7 +33,7 @@ module _ {U : Type 0} (held : List U → List ℕ) (written : List ℕ → List 
   pub filling_in_none : (before : List U) → before ≡ written (held before) before → FillingIn held written s before before (replicate most_blocks 0) (replicate most_places 0) None 0
   filling_in_none before e = record { words = held before; filling = filling_none s (held before); there = e }
 
-  module _ {before after : List U} {marks col : List ℕ} {f : Option code.Fault} {v : ℕ} (long : n * n ≤ length (held before)) (F : FillingIn held written s before after marks col f v) where
+  module _ {before after : List U} {marks col : List ℕ} {f : Option (code.Fault Refusal)} {v : ℕ} (long : n * n ≤ length (held before)) (F : FillingIn held written s before after marks col f v) where
     pub filling_in_room : Room s marks col
     filling_in_room = filling-room s F.filling
 
@@ -45,7 +44,7 @@ module _ {U : Type 0} (held : List U → List ℕ) (written : List ℕ → List 
     words-long : n * n ≤ length F.words
     words-long = omega (arith, long, F.filling.size)
 
-    pub filling_in_more : (after' : List U) (marks' col' : List ℕ) (new : Option code.Fault) → v < n → IfSome new (λ x. x.place < (found_below n f).place)
+    pub filling_in_more : (after' : List U) (marks' col' : List ℕ) (new : Option (code.Fault Refusal)) → v < n → IfSome new (λ x. x.place < (found_below n f).place)
         → ((m : Map) → OnSurvey s m → JudgedColumn m (map_of s.chart.ground.bytes.now) n v (found_below n f).place new marks col' marks')
         → ((words : List ℕ) (b : List U) → n * n ≤ length words → length words ≡ length (held b) → after ≡ written words b → StoredIn written n v col' words b after')
         → length col' ≡ length col → length marks' ≡ length marks → FillingIn held written s before after' marks' col' (option_or new f) (v + 1)

@@ -12,12 +12,12 @@ use Rattle.truth.specs.Pairs.{by_column}
 
 -- the column holds the road distances to v, and its pairs with the places below `below` are gone through as far as the first that is faulty, and mark their
 -- blocks, on the ground g
-pub record JudgedColumn (m g : Map) (n v below : ℕ) (found : Option Fault) (marks column marks' : List ℕ) : Type 0 where
+pub record JudgedColumn (m g : Map) (n v below : ℕ) (found : Option (Fault Refusal)) (marks column marks' : List ℕ) : Type 0 where
   pub near : (u : ℕ) → u < n → IsD m u v (get_or column u 0)
   pub looked : Looked (λ u. fault m (by_column column) u v) (none_below below) (found_below below found)
   pub marked : marks' ≡ marked_below g v (min ((found_below below found).place + 1) below) marks
 
 -- judged, or some place has no road to v
-abbrev pub ColumnIs : Map → Map → ℕ → ℕ → ℕ → List ℕ → List ℕ → List ℕ → Result (Option Fault) Refusal → Type 0
+abbrev pub ColumnIs : Map → Map → ℕ → ℕ → ℕ → List ℕ → List ℕ → List ℕ → Result (Option (Fault Refusal)) Refusal → Type 0
 ColumnIs m g n v below marks column marks' (Ok found) = JudgedColumn m g n v below found marks column marks'
 ColumnIs m g n v below marks column marks' (Err r) = (r ≡ CutOff) × ((u : ℕ) × (u < n) × ((l : ℕ) → Road m v u l → ⊥))

@@ -1,10 +1,11 @@
 // The check, column by column: the road distances to each place, and the pairs that it ends. Who keeps the table stores each column as it comes.
 ghost use Rattle.std.specs.Prelude.{◌≡◌, ℕ, ◌*◌, ◌≤◌, ◌<◌, length, IfOk, IfSome};
-ghost use Rattle.paper.specs.Refusal.{number};
+ghost use Rattle.paper.specs.Refusal.{numbered, number};
+ghost use Rattle.paper.specs.declared.refusal.Refusal.TheVariants.{UselessBlock};
 ghost use Rattle.paper.specs.Map.{Map};
 ghost use Rattle.paper.specs.Sheet.{map_of};
 ghost use Rattle.truth.specs.Table.{CheckedIn};
-ghost use Rattle.truth.specs.Faults.{found_below, number_of_check};
+ghost use Rattle.truth.specs.Faults.{found_by, found_below, number_of_check};
 ghost use Rattle.truth.specs.Roads.{OnRoads, OnSurvey, Reached};
 ghost use Rattle.truth.specs.Columns.{ColumnIs};
 
@@ -53,15 +54,17 @@ fn below(fault: Option<Fault>, places: usize) -> usize
     }
 }
 
-// What is due once all pairs are gone through: that of the first faulty one, then 15 for a block that no pair marked.
-pub fn final_number(marks: &[u8], fault: Option<Fault>) -> Result<(), Refusal>
-    ensures { (places : ℕ) → IfSome fault (λ f. f.place < places) → number result ≡ number_of_check places (length marks.now) marks.now (found_below places fault) }
+// What is due once all pairs are gone through: that of the first faulty one, then 15 for a block that no pair marked. Whatever a refusal can be turned into
+// may stand for one, so that a fault may have any number; that it may be dropped lets a body which passes a fault over be refused by what is promised here.
+#[tactic(auto, using(crate::proofs::Finding::number_found, crate::proofs::Finding::number_marked, crate::proofs::Finding::number_useless))]
+pub fn final_number<N: From<Refusal> + Drop>(marks: &[u8], fault: Option<Fault<N>>) -> Result<(), N>
+    ensures { (value : N → ℕ) → ((n : N) → N.from_gives UselessBlock n → value n ≡ 15) → (places : ℕ) → IfSome fault (λ f. f.place < places) → numbered value result ≡ number_of_check places (length marks.now) marks.now (found_by value places fault) }
 {
-    if let Some(found) = fault {
-        return Err(found.refusal);
+    if let Some(Fault { refusal: due, .. }) = fault {
+        return Err(due);
     }
     if !all_marked(marks) {
-        return Err(Refusal::UselessBlock);
+        return Err(N::from(Refusal::UselessBlock));
     }
     Ok(())
 }

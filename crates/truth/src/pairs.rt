@@ -21,11 +21,11 @@ use quadtree::interval::{code, crow};
 use quadtree::walk::stage_of;
 use sheet::{Chart, Ground};
 
-// A faulty pair of a column, by its first place, and what is due for it.
+// A faulty pair of a column, by its first place, and what is due for it: a refusal, or whatever stands for one.
 #[derive(Clone, Copy)]
-pub struct Fault {
+pub struct Fault<N = Refusal> {
     pub place: usize,
-    pub refusal: Refusal,
+    pub refusal: N,
 }
 
 // Whether a low ratio is true of the two distances.

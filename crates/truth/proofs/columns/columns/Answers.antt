@@ -1,7 +1,8 @@
 -- `truth::columns::columns` meets its contract. The invariant is `FillingIn`: the first v columns are judged, and stand in the table.
-use mathlib.Core.Path.{sym, ◌∙◌}
+use mathlib.Core.Path.{sym, ap, ◌∙◌}
 use native.Mathlib.Omega.{arith}
 use lib.Seq.{length-take-le}
+use Rattle.paper.specs.Refusal.{number_of}
 use Rattle.truth.proofs.Scans.{check_taken}
 use Rattle.truth.proofs.Filling.{place_in}
 use Rattle.truth.proofs.Tabled.{filling_in_none, filling_in_room, filling_in_long, filling_in_more, filling_in_cut, filling_in_all}
@@ -42,4 +43,4 @@ slice_bounds-final_number-end g c = sym (length-take-le _ _ (filling_in_room _ _
 pub returns : goal.returns
 returns g c =
     let R = filling_in_room _ _ _ c.requires.room c.loop-v.invariant in
-    filling_in_all _ _ _ c.requires.room c.loop-v.invariant _ (c.final_number.ensures _ c.loop-v.invariant.filling.fault_in ∙ check_taken _ _ _ _ R.marks_room) c.loop-v-test.false
+    filling_in_all _ _ _ c.requires.room c.loop-v.invariant _ (c.final_number.ensures number_of (λ n e. ap number_of e) _ c.loop-v.invariant.filling.fault_in ∙ check_taken _ _ _ _ R.marks_room) c.loop-v-test.false
