@@ -1,14 +1,17 @@
 -- The first faulty pair, column by column, and the number that the check ends with.
 use Prim.Native.Nat.{ℕ, suc, ◌+◌, ◌-◌, ◌≤◌, ◌<◌}
 use native.Mathlib.Omega.{arith}
+use native.Mathlib.Decide.{dec_lt}
 use mathlib.Core.Path.{◌≡◌, refl, sym, ap, ◌∙◌}
 use mathlib.Core.Logic.{⊎_elim}
 use mathlib.Core.Bool.{Bool, true, false}
 use mathlib.Core.List.{List}
 use lib.Dec.{ltb, eqb}
-use lib.ListN.{get_or}
+use lib.ListN.{length, get_or, take}
 use borrow.Author.Tests.{ltb-true, ltb-false, lt-ltb, le-ltb, eqb-true, eqb-false}
-use Rattle.std.specs.Prelude.{Option, Some, None, IfSome}
+use Rattle.std.specs.Prelude.{Option, Some, None, IfSome, Result}
+use Rattle.paper.specs.declared.refusal.Refusal.TheVariants.{UselessBlock}
+use Rattle.paper.specs.Refusal.{number_of, numbered}
 use Rattle.paper.specs.Test.{due}
 use Rattle.paper.specs.Map.{Map}
 use Rattle.paper.specs.Truth.{Used}
@@ -19,7 +22,7 @@ use Rattle.paper.proofs.Block.{block_is}
 use Rattle.paper.proofs.Test.{every_true}
 use Rattle.paper.proofs.Verdict.{used_of, verdict_zero, fault-same}
 use Rattle.paper.proofs.Due.{verdict_pair_due, verdict_15}
-use Rattle.truth.proofs.Scans.{every_not}
+use Rattle.truth.proofs.Scans.{every_not, check_taken}
 use Rattle.truth.specs.declared.pairs.Fault as code
 use Rattle.truth.specs.Table.{used, all_used}
 use Rattle.truth.specs.Faults.{Fault, Looked, found_by, number_of_check}
@@ -135,3 +138,20 @@ module _ {N : Type 0} (value : N → ℕ) (places blocks : ℕ) (l : List ℕ) (
   pub number_useless : fault ≡ None → all_used blocks l ≡ false → 15 ≡ number_of_check places blocks l (found_by value places fault)
   unfolding number_of_check
   number_useless e t = rw (e, le-ltb places places (omega arith), t, number_of_check)
+
+-- the clause of `final_number` at numbers: it gives what is due by any place and number, a fault's where the place is below `places`, and the first blocks' marks
+module _ (places blocks place number : ℕ) (marks : List ℕ) (fault : Option (code.Fault ℕ)) (found : place < places → fault ≡ Some (record { place = place; refusal = number })) (none : places ≤ place → fault ≡ None) where
+  fault-in : Dec (place < places) → IfSome fault (λ f. f.place < places)
+  fault-in (yes p) = rw (found p) p
+  fault-in (no q) = rw (none (omega arith)) tt
+
+  due-same : Dec (place < places) → number_of_check places blocks marks (found_by (λ n. n) places fault) ≡ number_of_check places blocks marks (record { place = place; number = number })
+  unfolding number_of_check
+  due-same (yes p) = rw (found p)
+  due-same (no q) = rw (none (omega arith), le-ltb places places (omega arith), le-ltb place places (omega arith), number_of_check)
+
+  pub number_at : {A : Type 0} (result : Result A ℕ) → blocks ≤ length marks
+      → ((value : ℕ → ℕ) → ((n : ℕ) → n ≡ number_of UselessBlock → value n ≡ 15) → (p : ℕ) → IfSome fault (λ f. f.place < p)
+      → numbered value result ≡ number_of_check p (length (take blocks marks)) (take blocks marks) (found_by value p fault))
+      → numbered (λ n. n) result ≡ number_of_check places blocks marks (record { place = place; number = number })
+  number_at result h clause = clause (λ n. n) (λ n e. e) places (fault-in (dec_lt place places)) ∙ check_taken places blocks marks _ h ∙ due-same (dec_lt place places)
