@@ -31,6 +31,11 @@ pub record OnSurvey (s : Survey) (m : Map) : Type 0 where
   pub charted : OnChart s.chart m
   pub roads : OnRoads s.roads m
 
+-- some map is the survey's: what is said of its columns is said of such a map, and without one would say nothing
+pub record SomeSurvey (s : Survey) : Type 0 where
+  pub map : Map
+  pub on : OnSurvey s map
+
 -- r is whether each of the n places has a road to v; if so, the column holds the road distances to v
 pub record Reached (m : Map) (n v : ℕ) (column : List ℕ) (r : Bool) : Type 0 where
   pub all : r ≡ true → (u : ℕ) → u < n → IsD m u v (get_or column u 0)

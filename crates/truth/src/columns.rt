@@ -6,7 +6,7 @@ ghost use Rattle.paper.specs.Map.{Map};
 ghost use Rattle.paper.specs.Sheet.{map_of};
 ghost use Rattle.truth.specs.Table.{CheckedIn};
 ghost use Rattle.truth.specs.Faults.{found_by, found_below, number_of_check};
-ghost use Rattle.truth.specs.Roads.{OnRoads, OnSurvey, Reached};
+ghost use Rattle.truth.specs.Roads.{OnRoads, OnSurvey, SomeSurvey, Reached};
 ghost use Rattle.truth.specs.Columns.{ColumnIs};
 
 use crate::known::Survey;
@@ -34,7 +34,8 @@ pub fn judge_column(
     marks: &mut [u8],
     below: usize,
 ) -> Result<Option<Fault>, Refusal>
-    requires { (below ≤ survey.now.roads.places) × (v < survey.now.roads.places) × (survey.now.roads.places ≤ length column.old) × (survey.now.chart.ground.counts.blocks ≤ length marks.old) }
+    requires surveyed { SomeSurvey survey.now }
+    requires below_le_places { (below ≤ survey.now.roads.places) × (v < survey.now.roads.places) × (survey.now.roads.places ≤ length column.old) × (survey.now.chart.ground.counts.blocks ≤ length marks.old) }
     ensures within { IfOk result (λ found. IfSome found (λ f. f.place < below)) }
     ensures column { (m : Map) → OnSurvey survey.now m → ColumnIs m (map_of survey.now.chart.ground.bytes.now) survey.now.roads.places v below marks.old column.new marks.new result }
 {
@@ -71,6 +72,7 @@ pub fn final_number<N: From<Refusal> + Drop>(marks: &[u8], fault: Option<Fault<N
 
 // Fills the table a column at a time, on any map that was surveyed. It ends at a place that some other cannot reach (11).
 pub fn columns<U, T: Table<U>>(survey: &Survey, table: &mut [U]) -> Result<(), Refusal>
+    requires surveyed { SomeSurvey survey.now }
     requires room { survey.now.roads.places * survey.now.roads.places ≤ length (T.held table.old) }
     requires whole { table.old ≡ T.written (T.held table.old) table.old }
     ensures { (m : Map) → OnSurvey survey.now m → CheckedIn T.held T.written 0 m table.old (number result) table.new }

@@ -8,7 +8,7 @@ ghost use Rattle.paper.specs.Sheet.{map_of};
 ghost use Rattle.paper.specs.Cell.{cell};
 ghost use Rattle.paper.specs.Crow.{crow as crow_of};
 ghost use Rattle.paper.specs.Verdict.{fault_by, fault as fault_of};
-ghost use Rattle.sheet.specs.Charts.{OnChart};
+ghost use Rattle.sheet.specs.Charts.{OnChart, SomeMap};
 ghost use Rattle.truth.specs.Table.{marked, marked_below};
 ghost use Rattle.truth.specs.Faults.{Looked, none_below, found_below};
 ghost use Rattle.truth.specs.Pairs.{by_column, Own, colour_true, ratios_true};
@@ -60,7 +60,8 @@ fn ratios_hold(ground: &Ground, b: usize, u: usize, v: usize, d: Network) -> boo
 
 // Whether the stage that the block b names begins a shortest road from u, on any map that has the chart.
 fn colour_holds(chart: &Chart, column: &[u32], u: usize, b: usize) -> bool
-    requires { (u < chart.now.ground.counts.places) × (chart.now.ground.counts.places ≤ length column.now) × (Own (map_of chart.now.ground.bytes.now) u b) }
+    requires charted { SomeMap chart.now }
+    requires u_lt_places { (u < chart.now.ground.counts.places) × (chart.now.ground.counts.places ≤ length column.now) × (Own (map_of chart.now.ground.bytes.now) u b) }
     ensures { (m : Map) → OnChart chart.now m → result ≡ colour_true m column.now u b }
 {
     let i = stage_of(&chart.ground, chart.first, u, b);
@@ -71,7 +72,8 @@ fn colour_holds(chart: &Chart, column: &[u32], u: usize, b: usize) -> bool
 
 // What is due for u and v, where the block b of u covers v: 13, 14, or nothing.
 fn block_fault(chart: &Chart, column: &[u32], u: usize, v: usize, b: usize) -> Result<(), Refusal>
-    requires { (u < chart.now.ground.counts.places) × (v < chart.now.ground.counts.places) × (chart.now.ground.counts.places ≤ length column.now) × (Own (map_of chart.now.ground.bytes.now) u b) }
+    requires charted { SomeMap chart.now }
+    requires u_lt_places { (u < chart.now.ground.counts.places) × (v < chart.now.ground.counts.places) × (chart.now.ground.counts.places ≤ length column.now) × (Own (map_of chart.now.ground.bytes.now) u b) }
     ensures { (m : Map) → OnChart chart.now m → number result ≡ fault_by m (by_column column.now) u v (some b) }
 {
     if !colour_holds(chart, column, u, b) {
@@ -92,7 +94,8 @@ fn pair_fault(
     code: u32,
     marks: &mut [u8],
 ) -> Result<(), Refusal>
-    requires { (u < chart.now.ground.counts.places) × (v < chart.now.ground.counts.places) × (chart.now.ground.counts.places ≤ length column.now) × (chart.now.ground.counts.blocks ≤ length marks.old) × (code ≡ cell (map_of chart.now.ground.bytes.now) v) }
+    requires charted { SomeMap chart.now }
+    requires u_lt_places { (u < chart.now.ground.counts.places) × (v < chart.now.ground.counts.places) × (chart.now.ground.counts.places ≤ length column.now) × (chart.now.ground.counts.blocks ≤ length marks.old) × (code ≡ cell (map_of chart.now.ground.bytes.now) v) }
     ensures value { (m : Map) → OnChart chart.now m → number result ≡ fault_of m (by_column column.now) u v }
     ensures marks_after { marks.new ≡ marked (map_of chart.now.ground.bytes.now) u v marks.old }
 {
@@ -116,7 +119,8 @@ pub fn column_fault(
     marks: &mut [u8],
     below: usize,
 ) -> Option<Fault>
-    requires { (below ≤ chart.now.ground.counts.places) × (v < chart.now.ground.counts.places) × (chart.now.ground.counts.places ≤ length column.now) × (chart.now.ground.counts.blocks ≤ length marks.old) }
+    requires charted { SomeMap chart.now }
+    requires below_le_places { (below ≤ chart.now.ground.counts.places) × (v < chart.now.ground.counts.places) × (chart.now.ground.counts.places ≤ length column.now) × (chart.now.ground.counts.blocks ≤ length marks.old) }
     ensures looked { (m : Map) → OnChart chart.now m → Looked (λ u. fault_of m (by_column column.now) u v) (none_below below) (found_below below result) }
     ensures within { IfSome result (λ f. f.place < below) }
     ensures marks_after { marks.new ≡ marked_below (map_of chart.now.ground.bytes.now) v (min ((found_below below result).place + 1) below) marks.old }

@@ -21,7 +21,7 @@ ratios-are : (c : After-ratios_hold) → let a = c.args in (m : Map) → OnChart
 ratios-are c m C =
     let G = C.ground in
     let e = (standing c.args.chart.now.ground.keeps).places in
-    ratios_same G _ _ _ _ (omega (arith, G.places, e, c.requires.0)) (omega (arith, G.places, e, c.requires.1)) (omega (arith, G.blocks, c.requires.3.under))
+    ratios_same G _ _ _ _ (omega (arith, G.places, e, c.requires.u_lt_places.0)) (omega (arith, G.places, e, c.requires.u_lt_places.1)) (omega (arith, G.blocks, c.requires.u_lt_places.3.under))
     ∙ (rw c.from.ensures.0 at (sym c.ratios_hold.ensures))
 
 pub returns-then-not-ratios_hold : goal.returns-then-not-ratios_hold

@@ -8,7 +8,7 @@ use Rattle.truth.proofs.pairs.colour_holds.Goals as goal
 
 -- the stage that the block names, on any map that has the chart
 stage : (c : After-stage_of-i) → let a = c.args in (m : Map) → OnChart a.chart.now m → Led m a.chart.now.heads.now a.chart.now.lengths.now a.u a.b c.stage_of-i.result
-stage c m C = let own = c.requires.2 in led C _ _ _ own.under own.owner c.stage_of-i.ensures
+stage c m C = let own = c.requires.u_lt_places.2 in led C _ _ _ own.under own.owner c.stage_of-i.ensures
 
 pub returns : goal.returns
 returns c m C =

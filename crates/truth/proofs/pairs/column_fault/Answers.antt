@@ -18,7 +18,9 @@ pub loop-u-init : goal.loop-u-init
 loop-u-init c = (gone_none _ _ _ _, λ m C. clean_none _)
 
 pub pair_fault-requires : goal.pair_fault-requires
-pair_fault-requires c = (omega (arith, c.loop-u-test.true, c.requires.0), c.requires.1, c.requires.2, omega (arith, size (goal.at.pair_fault-requires c).At-loop-u, c.requires.3), c.code-code.ensures)
+pair_fault-requires c =
+    let R = c.requires.below_le_places in
+    record { charted = c.requires.charted; u_lt_places = (omega (arith, c.loop-u-test.true, R.0), R.1, R.2, omega (arith, size (goal.at.pair_fault-requires c).At-loop-u, R.3), c.code-code.ensures) }
 
 pub returns-in-Err : goal.returns-in-Err
 returns-in-Err c =
