@@ -141,9 +141,9 @@ module _ {N : Type 0} (value : N → ℕ) (places blocks : ℕ) (l : List ℕ) (
 
 -- the clause of `final_number` at numbers: it gives what is due by any place and number, a fault's where the place is below `places`, and the first blocks' marks
 module _ (places blocks place number : ℕ) (marks : List ℕ) (fault : Option (code.Fault ℕ)) (found : place < places → fault ≡ Some (record { place = place; refusal = number })) (none : places ≤ place → fault ≡ None) where
-  fault-in : Dec (place < places) → IfSome fault (λ f. f.place < places)
-  fault-in (yes p) = rw (found p) p
-  fault-in (no q) = rw (none (omega arith)) tt
+  fault_in : Dec (place < places) → IfSome fault (λ f. f.place < places)
+  fault_in (yes p) = rw (found p) p
+  fault_in (no q) = rw (none (omega arith)) tt
 
   due-same : Dec (place < places) → number_of_check places blocks marks (found_by (λ n. n) places fault) ≡ number_of_check places blocks marks (record { place = place; number = number })
   unfolding number_of_check
@@ -154,4 +154,4 @@ module _ (places blocks place number : ℕ) (marks : List ℕ) (fault : Option (
       → ((value : ℕ → ℕ) → ((n : ℕ) → n ≡ number_of UselessBlock → value n ≡ 15) → (p : ℕ) → IfSome fault (λ f. f.place < p)
       → numbered value result ≡ number_of_check p (length (take blocks marks)) (take blocks marks) (found_by value p fault))
       → numbered (λ n. n) result ≡ number_of_check places blocks marks (record { place = place; number = number })
-  number_at result h clause = clause (λ n. n) (λ n e. e) places (fault-in (dec_lt place places)) ∙ check_taken places blocks marks _ h ∙ due-same (dec_lt place places)
+  number_at result h clause = clause (λ n. n) (λ n e. e) places (fault_in (dec_lt place places)) ∙ check_taken places blocks marks _ h ∙ due-same (dec_lt place places)

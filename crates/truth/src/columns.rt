@@ -55,8 +55,8 @@ fn below(fault: Option<Fault>, places: usize) -> usize
     }
 }
 
-// What is due once all pairs are gone through: that of the first faulty one, then 15 for a block that no pair marked. Whatever a refusal can be turned into
-// may stand for one, so that a fault may have any number; that it may be dropped lets a body which passes a fault over be refused by what is promised here.
+// What is due once all pairs are gone through: that of the first faulty one, then 15 for a block that no pair marked. An N stands for a
+// refusal, as a word does by its number: so a fault may have any number. It is `Drop` so that a body which lets a fault go is refused by what is promised here.
 #[tactic(auto, using(crate::proofs::Finding::number_found, crate::proofs::Finding::number_marked, crate::proofs::Finding::number_useless))]
 pub fn final_number<N: From<Refusal> + Drop>(marks: &[u8], fault: Option<Fault<N>>) -> Result<(), N>
     ensures { (value : N → ℕ) → ((n : N) → N.from_gives UselessBlock n → value n ≡ 15) → (places : ℕ) → IfSome fault (λ f. f.place < places) → numbered value result ≡ number_of_check places (length marks.now) marks.now (found_by value places fault) }
