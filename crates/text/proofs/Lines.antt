@@ -1,20 +1,20 @@
 -- The texts of lines and lists, taken apart the way a loop writes them.
-use Prim.Native.Nat.{ℕ, zero, suc, ◌+◌, ◌*◌, ◌-◌, ◌/◌, ◌≤◌, ◌<◌}
+use Prim.Native.Nat.{ℕ, suc, ◌+◌, ◌*◌, ◌-◌, ◌≤◌, ◌<◌}
 use mathlib.Core.Path.{◌≡◌, refl, sym, ap, ◌∙◌}
 use mathlib.Core.List.{List, [], ◌∷◌, ◌++◌}
 use native.Mathlib.Numerals.{add-one}
 use native.Mathlib.Omega.{arith}
 use lib.ListN.{length, get_or, take, drop, set, length-append}
-use lib.Seq.{length-take-le, drop-cons, drop_at, take_at, take_all, take-take}
-use Rattle.std.proofs.lemmas.List.{drop_all, drop-take}
+use lib.Seq.{drop-cons, drop-drop, take_all}
+use Rattle.std.proofs.lemmas.List.{drop_all}
 use Rattle.paper.specs.Sizes.{line_words}
 use Rattle.paper.specs.Printed.{decimal, after, line_text, list_text, refusal_text}
 use Rattle.text.specs.Put.{Written}
-use Rattle.text.proofs.Put.{Going, going_step, going_as, going_room, going_fits, going_end, going_last, written_byte}
+use Rattle.text.proofs.Put.{Going, going_start, going_step, going_as, going_room, going_fits, going_end, going_last, written_byte}
 
--- the lines of as many offices as the words hold
-abbrev pub all_lines : List ℕ → List ℕ
-all_lines ws = list_text (length ws / line_words) ws
+-- the lines of the offices from i to k
+abbrev pub lines_from : List ℕ → ℕ → ℕ → List ℕ
+lines_from ws i k = list_text (k - i) (drop (line_words * i) ws)
 
 -- of the numbers after the first of a line, those from i on
 after-step : (ws : List ℕ) (i : ℕ) → i < length ws → after (drop i ws) ≡ (32 ∷ decimal (get_or ws i 0)) ++ after (drop (i + 1) ws)
@@ -27,33 +27,17 @@ after_end : (ws : List ℕ) (i : ℕ) → length ws ≤ i → after (drop i ws) 
 unfolding after
 after_end ws i h = ap after (drop_all i ws h)
 
--- a list reads no words past its lines
-list_taken : (k : ℕ) (ws : List ℕ) → list_text k (take (line_words * k) ws) ≡ list_text k ws
+list_step : (ws : List ℕ) (i k : ℕ) → i < k → lines_from ws i k ≡ line_text (take line_words (drop (line_words * i) ws)) ++ lines_from ws (i + 1) k
 unfolding list_text
-list_taken zero ws = refl
-list_taken (suc k) ws =
-    let more : line_words * suc k ≡ line_words + line_words * k = omega arith in
-    let first : take line_words (take (line_words * suc k) ws) ≡ take line_words ws = take-take line_words (line_words * suc k) ws (omega arith) in
-    let others : drop line_words (take (line_words * suc k) ws) ≡ take (line_words * k) (drop line_words ws) = ap (λ n. drop line_words (take n ws)) more ∙ drop-take line_words (line_words * k) ws in
-    rw (first, others, list_taken k (drop line_words ws)) refl
+list_step ws i k h =
+    let more : k - i ≡ suc (k - (i + 1)) = omega arith in
+    let past : line_words * i + line_words ≡ line_words * (i + 1) = omega arith in
+    ap (λ n. list_text n (drop (line_words * i) ws)) more
+    ∙ ap (λ l. line_text (take line_words (drop (line_words * i) ws)) ++ list_text (k - (i + 1)) l) (drop-drop line_words (line_words * i) ws ∙ ap (λ n. drop n ws) past)
 
-pub lines_begun : (k : ℕ) (ws : List ℕ) → line_words * k ≤ length ws → list_text k ws ≡ all_lines (take (line_words * k) ws)
-lines_begun k ws h =
-    let count : k ≡ length (take (line_words * k) ws) / line_words = omega (arith, length-take-le (line_words * k) ws h) in
-    sym (list_taken k ws) ∙ ap (λ n. list_text n (take (line_words * k) ws)) count
-
-lines-step : {ws : List ℕ} (line rest : List ℕ) → ws ≡ line ++ rest → length line ≡ line_words → all_lines ws ≡ line_text line ++ all_lines rest
+list_end : (ws : List ℕ) (i k : ℕ) → k ≤ i → lines_from ws i k ≡ []
 unfolding list_text
-lines-step line rest e h =
-    let more : length (line ++ rest) / line_words ≡ suc (length rest / line_words) = omega (arith, length-append line rest) in
-    let first : take line_words (line ++ rest) ≡ line = take_at line rest line_words h in
-    let others : drop line_words (line ++ rest) ≡ rest = drop_at line rest line_words h in
-    ap all_lines e ∙ ap (λ n. list_text n (line ++ rest)) more ∙ ap (λ l. line_text l ++ list_text (length rest / line_words) (drop line_words (line ++ rest))) first
-    ∙ ap (λ l. line_text line ++ list_text (length rest / line_words) l) others
-
-lines_end : (ws : List ℕ) → length ws < line_words → all_lines ws ≡ []
-unfolding list_text
-lines_end ws h = let none : length ws / line_words ≡ 0 = omega arith in ap (λ n. list_text n ws) none
+list_end ws i k h = let none : k - i ≡ 0 = omega arith in ap (λ n. list_text n (drop (line_words * i) ws)) none
 
 module _ (ws : List ℕ) {at : ℕ} {text u : List ℕ} where
   module _ {i next : ℕ} {v : List ℕ} (g : Going at text (after (drop i ws)) u v next) where
@@ -70,16 +54,19 @@ module _ (ws : List ℕ) {at : ℕ} {text u : List ℕ} where
     pub after-done : at + length text ≤ length u → length ws ≤ i → Written at text u (set v next 10) (next + 1)
     after-done room h = going_last (going_as g (after_end ws i h)) (written_byte next 10 v (after-room room h))
 
-  module _ {next : ℕ} {v : List ℕ} (g : Going at text (all_lines ws) u v next) where
-    module _ (line rest : List ℕ) (e : ws ≡ line ++ rest) (h : length line ≡ line_words) where
-      pub list-fits : at + length text ≤ length u → next + length (line_text line) ≤ length v
-      list-fits room = going_fits (line_text line) (all_lines rest) g (lines-step line rest e h) room
+  pub list_begun : (k : ℕ) → text ≡ list_text k ws → at + length text ≤ length u → Going at text (lines_from ws 0 k) u u at
+  list_begun k e h = let same : k ≡ k - 0 = omega arith in going_as (going_start at text u h) (e ∙ ap (λ n. list_text n ws) same)
 
-      pub list-more : {w : List ℕ} {past : ℕ} → Written next (line_text line) v w past → Going at text (all_lines rest) u w past
-      list-more p = going_step (going_as g (lines-step line rest e h)) p
+  module _ {i k next : ℕ} {v : List ℕ} (g : Going at text (lines_from ws i k) u v next) where
+    pub list-fits : at + length text ≤ length u → i < k → next + length (line_text (take line_words (drop (line_words * i) ws))) ≤ length v
+    list-fits room h = going_fits (line_text (take line_words (drop (line_words * i) ws))) (lines_from ws (i + 1) k) g (list_step ws i k h) room
 
-    pub list_done : length ws < line_words → Written at text u v next
-    list_done h = going_end (going_as g (lines_end ws h))
+    pub list-more : {w : List ℕ} {past : ℕ} → i < k → Written next (line_text (take line_words (drop (line_words * i) ws))) v w past
+        → Going at text (lines_from ws (i + 1) k) u w past
+    list-more h p = going_step (going_as g (list_step ws i k h)) p
+
+    pub list_done : k ≤ i → Written at text u v next
+    list_done h = going_end (going_as g (list_end ws i k h))
 
 -- the first number of a line, and the others
 abbrev others_of : List ℕ → List ℕ

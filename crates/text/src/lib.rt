@@ -85,15 +85,16 @@ pub fn put_numbers(out: &mut [u8], at: usize, words: &[u64]) -> usize
     put_after(out, next, &words[1..])
 }
 
-// The lines of the k listed offices.
+// The lines of the k listed offices. By index and not by `chunks_exact`: where a line begins is said here, so that a line that begins elsewhere is refused.
 pub fn put_list(out: &mut [u8], at: usize, answer: &[u64], k: usize) -> usize
     requires k_in_bounds { line_words * k ≤ length answer.now }
     requires answer_in_bounds { at + length (list_text k answer.now) ≤ length out.old }
     ensures { Written at (list_text k answer.now) out.old out.new result }
 {
     let mut next = at;
-    for line in answer[..LINE_WORDS * k].chunks_exact(LINE_WORDS) {
-        next = put_numbers(out, next, line);
+    for i in 0..k {
+        let first = LINE_WORDS * i;
+        next = put_numbers(out, next, &answer[first..first + LINE_WORDS]);
     }
     next
 }

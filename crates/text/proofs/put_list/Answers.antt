@@ -1,25 +1,28 @@
--- `text::put_list` meets its contract. The invariant: the lines so far are written, and the other chunks are those to come.
+-- `text::put_list` meets its contract: line i is the words from 5i on.
+use mathlib.Core.Path.{◌≡◌, refl}
+use Prim.Native.Nat.{ℕ, ◌+◌, ◌*◌, ◌-◌}
 use native.Mathlib.Omega.{arith}
-use mathlib.Core.Path.{◌∙◌}
-use Rattle.text.proofs.Put.{going_start, going_as}
-use Rattle.text.proofs.Lines.{lines_begun, list-fits, list-more, list_done}
+use Rattle.paper.specs.Sizes.{line_words}
+use Rattle.text.proofs.Put.{going_long}
+use Rattle.text.proofs.Lines.{list_begun, list-fits, list-more, list_done}
 use Rattle.text.proofs.put_list.Goals as goal
 
-pub loop-line-init : goal.loop-line-init
-loop-line-init c =
-    rw (c.into_iter-line-iterator.ensures.into_iter_gives, c.chunks_exact-line-items.ensures.rest)
-    (going_as (going_start _ _ _ c.requires.answer_in_bounds) (lines_begun c.args.k c.args.answer.now c.requires.k_in_bounds), c.chunks_exact-line-items.ensures.size)
+pub loop-i-init : goal.loop-i-init
+loop-i-init c = (list_begun c.args.answer.now c.args.k refl c.requires.answer_in_bounds, omega arith, refl)
+
+-- the part that is lent from word `first` on has five words
+five : (first : ℕ) → first + line_words - first ≡ line_words
+five first = omega arith
 
 pub put_numbers-next-requires-clause-words_in_bounds :
     goal.put_numbers-next-requires-clause-words_in_bounds
 put_numbers-next-requires-clause-words_in_bounds c =
-    let step = c.in-Some.ensures.steps.1 in
-    list-fits _ c.loop-line.invariant.0 _ _ step.0 (step.1 ∙ c.loop-line.invariant.1) c.requires.answer_in_bounds
+    rw (five _) (list-fits c.args.answer.now c.loop-i.invariant.0 c.requires.answer_in_bounds c.loop-i-test.true)
 
-pub loop-line-preserved : goal.loop-line-preserved
-loop-line-preserved c =
-    let step = c.in-Some.ensures.steps in
-    (list-more _ c.loop-line.invariant.0 _ _ step.1.0 (step.1.1 ∙ c.loop-line.invariant.1) c.put_numbers-next.ensures, step.0 ∙ c.loop-line.invariant.1)
+pub loop-i-preserved : goal.loop-i-preserved
+loop-i-preserved c =
+    let g = list-more c.args.answer.now c.loop-i.invariant.0 c.loop-i-test.true (rw (five _) at c.put_numbers-next.ensures) in
+    (g, omega arith, going_long g)
 
 pub returns : goal.returns
-returns c = list_done _ c.loop-line.invariant.0 (omega (arith, c.in-None.ensures.steps.1.0, c.loop-line.invariant.1))
+returns c = list_done c.args.answer.now c.loop-i.invariant.0 c.loop-i-test.false
