@@ -4,18 +4,21 @@ use mathlib.Core.Path.{◌≡◌, refl, sym, ap, ◌∙◌}
 use mathlib.Core.Bool.{Bool, true, false}
 use mathlib.Core.Option.{Option, some, none}
 use lib.Dec.{ltb, eqb}
+use lib.ListN.{get_or}
 use borrow.Author.Tests.{eq-eqb, lt-ltb, le-ltb, le-leb, lt-leb, eqb-true}
 use Rattle.std.specs.Prelude.{Some, None}
 use Rattle.paper.specs.Served.{Served, refused, served}
 use Rattle.paper.specs.Map.{Map}
+use Rattle.paper.specs.Sheet.{map_of}
 use Rattle.paper.specs.Crow.{crow}
 use Rattle.paper.specs.Stage.{stage_of}
 use Rattle.paper.specs.Block.{block_of}
 use Rattle.paper.specs.Trail.{Ends, Trail, between, ends_by, ordered, tested, fresh, start, onward_by, refine}
 use Rattle.paper.specs.Ground.{SameGround}
 use Rattle.paper.proofs.Ground.{between-same}
+use Rattle.sheet.specs.declared.ground.Chart.{Chart}
 use Rattle.quadtree.specs.Blocks.{cover_of}
-use Rattle.quadtree.specs.Walks.{ends_of, ahead, walked_to}
+use Rattle.quadtree.specs.Walks.{ends_of, ahead, walked_to, stage_by_chart, onward_by_chart, refine_by_chart}
 
 -- what was found tells what the definition finds
 pub cover_some : (r : Option ℕ) (b : ℕ) → Some b ≡ cover_of r → r ≡ some b
@@ -105,3 +108,25 @@ module _ (m : Map) (v : ℕ) (t : Trail) where
   pub refine_to : (b i via length : ℕ) (s : Served Trail) → t.stages + 1 < m.places → Some b ≡ cover_of (block_of m t.via v) → i ≡ stage_of m t.via (m.colour b)
       → via ≡ m.head i → length ≡ m.furlongs i → s ≡ walked_to m v t via length → s ≡ refine m v t
   refine_to b i via length s p e z h l q = rw (refine-by b i p e z, ← h, ← l) q
+
+-- one refinement by a chart
+module _ (c : Chart) (v : ℕ) (t : Trail) where
+  abbrev g : Map
+  g = map_of c.ground.bytes.now
+
+  chart-as : (x : Bool) → ltb (t.stages + 1) g.places ≡ x → refine_by_chart c v t ≡ elim x [ false ↦ refused 16 | true ↦ onward_by_chart c v t (block_of g t.via v) ]
+  unfolding refine_by_chart
+  chart-as x e = ap (λ (b : Bool). elim b [ false ↦ refused 16 | true ↦ onward_by_chart c v t (block_of g t.via v) ]) e
+
+  pub chart_last : g.places ≤ t.stages + 1 → refused 16 ≡ refine_by_chart c v t
+  chart_last p = sym (chart-as false (le-ltb _ _ p))
+
+  chart-by : (r : Option ℕ) → t.stages + 1 < g.places → block_of g t.via v ≡ r → onward_by_chart c v t r ≡ refine_by_chart c v t
+  chart-by r p e = sym (chart-as true (lt-ltb _ _ p) ∙ ap (onward_by_chart c v t) e)
+
+  pub chart_none : t.stages + 1 < g.places → None ≡ cover_of (block_of g t.via v) → refused 17 ≡ refine_by_chart c v t
+  chart_none p e = chart-by none p (cover_none _ e)
+
+  pub chart_to : (b i : ℕ) (s : Served Trail) → t.stages + 1 < g.places → Some b ≡ cover_of (block_of g t.via v) → i ≡ stage_by_chart c t.via b
+      → s ≡ walked_to g v t (get_or c.heads.now i 0) (get_or c.lengths.now i 0) → s ≡ refine_by_chart c v t
+  chart_to b i s p e z q = rw z at q ∙ chart-by (some b) p (cover_some _ b e)

@@ -7,8 +7,8 @@ ghost use Rattle.paper.specs.Sheet.{map_of};
 ghost use Rattle.paper.specs.Cell.{cell};
 ghost use Rattle.paper.specs.Trail.{start as start_of, refine as refine_of, tested as tested_of};
 ghost use Rattle.paper.specs.Bounds.{Sane, Summed};
-ghost use Rattle.sheet.specs.Charts.{OnChart, SomeMap};
-ghost use Rattle.quadtree.specs.Walks.{trail_of, ends_as, ahead, walked_to};
+ghost use Rattle.sheet.specs.Charts.{OnChart};
+ghost use Rattle.quadtree.specs.Walks.{trail_of, ends_as, ahead, walked_to, refine_by_chart};
 
 use crate::blocks::block_of;
 use crate::interval::{Ends, between, code, towards};
@@ -83,12 +83,12 @@ fn walked_to(
     tested(onward(t, via, length, next))
 }
 
-// One refinement of the trail t towards v, on any map that has the chart. That there is one is asked, since
-// nothing is said of a chart that no map has.
+// One refinement of the trail t towards v, by the chart and on any map that has it. What is said by the chart holds of one that no map has
+// too, and so the result is pinned.
 pub fn refine(chart: &Chart, v: usize, t: Trail) -> Result<Trail, Refusal>
-    requires charted { SomeMap chart.now }
-    requires v_lt_places { (v < chart.now.ground.counts.places) × (Sane chart.now.ground.counts.places (trail_of t)) }
-    ensures { (m : Map) → OnChart chart.now m → served_as trail_of result ≡ refine_of m v (trail_of t) }
+    requires { (v < chart.now.ground.counts.places) × (Sane chart.now.ground.counts.places (trail_of t)) }
+    ensures by_chart { served_as trail_of result ≡ refine_by_chart chart.now v (trail_of t) }
+    ensures mapped { (m : Map) → OnChart chart.now m → served_as trail_of result ≡ refine_of m v (trail_of t) }
 {
     let ground = &chart.ground;
     if ground.counts.places <= t.stages + 1 {

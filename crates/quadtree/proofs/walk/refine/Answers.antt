@@ -13,7 +13,8 @@ use Rattle.sheet.specs.Charts.{OnChart}
 use Rattle.quadtree.specs.Blocks.{cover_of}
 use Rattle.quadtree.proofs.Words.{standing}
 use Rattle.quadtree.proofs.Charts.{Led, led, Reads, reads}
-use Rattle.quadtree.proofs.Steps.{cover_some, walked_same, refine_last, refine_none, refine_to}
+use Rattle.quadtree.specs.Walks.{walked_to}
+use Rattle.quadtree.proofs.Steps.{cover_some, walked_same, refine_last, refine_none, refine_to, chart_last, chart_none, chart_to}
 use Rattle.quadtree.proofs.Search.{cell_lt}
 use Rattle.quadtree.proofs.walk.refine.Goals.{After-block_of, After-stage_of-i, In-Some}
 use Rattle.quadtree.proofs.walk.refine.Goals as goal
@@ -21,7 +22,7 @@ use Rattle.quadtree.proofs.walk.refine.Goals as goal
 -- the place and the trail are within the places of a map that has the ground
 module _ (c : After-block_of) (m : Map) (S : SameGround m (map_of c.args.chart.now.ground.bytes.now)) where
   within : (c.args.v < m.places) × (c.args.t.via < m.places)
-  within = omega (arith, c.requires.v_lt_places, (standing c.args.chart.now.ground.keeps).places, S.places)
+  within = omega (arith, c.requires, (standing c.args.chart.now.ground.keeps).places, S.places)
 
   -- what the search found is what the definition finds
   found : (r : Option ℕ) → c.block_of.result ≡ r → r ≡ cover_of (block_of m c.args.t.via c.args.v)
@@ -38,10 +39,15 @@ stage : (c : After-stage_of-i) (m : Map) → OnChart c.args.chart.now m → Led 
 stage c m C = let B = block_of_lem _ _ _ _ (cover_some _ _ (sym c.in-Some.is ∙ c.block_of.ensures.block _ (sym c.code-code.ensures))) in led C _ _ _ B.under B.owner c.stage_of-i.ensures
 
 pub returns-then-ground-t : goal.returns-then-ground-t
-returns-then-ground-t c m C = refine_last _ _ _ (omega (arith, c.if-ground-t.true, (standing c.args.chart.now.ground.keeps).places, C.ground.places))
+returns-then-ground-t c =
+    let room = (standing c.args.chart.now.ground.keeps).places in
+    record {
+      by_chart = chart_last c.args.chart.now _ _ (omega (arith, c.if-ground-t.true, room));
+      mapped = λ m C. refine_last _ _ _ (omega (arith, c.if-ground-t.true, room, C.ground.places));
+    }
 
 pub block_of-requires : goal.block_of-requires
-block_of-requires c = (c.requires.v_lt_places.1.via, cell_lt _ _ _ c.code-code.ensures)
+block_of-requires c = (c.requires.1.via, cell_lt _ _ _ c.code-code.ensures)
 
 pub offset_bounds-chart-i : goal.offset_bounds-chart-i
 offset_bounds-chart-i c = omega (arith, read (goal.at.offset_bounds-chart-i c).After-stage_of-i)
@@ -58,16 +64,24 @@ bounds-chart-i-in-Some c = omega (arith, read (goal.at.bounds-chart-i-in-Some c)
 pub walked_to-requires : goal.walked_to-requires
 walked_to-requires c =
     let R = read (goal.at.walked_to-requires c).After-stage_of-i in
-    (omega (arith, R.placed, (standing c.args.chart.now.ground.keeps).places), c.requires.v_lt_places.0, c.code-code.ensures, c.requires.v_lt_places.1, omega (arith, c.if-ground-t.false), omega (arith, R.short, c.into.ensures))
+    (omega (arith, R.placed, (standing c.args.chart.now.ground.keeps).places), c.requires.0, c.code-code.ensures, c.requires.1, omega (arith, c.if-ground-t.false), omega (arith, R.short, c.into.ensures))
 
 pub returns-in-Some : goal.returns-in-Some
-returns-in-Some c m C =
+returns-in-Some c =
     let at = goal.at.returns-in-Some c in
-    let L = stage at.After-stage_of-i m C in
-    refine_to _ _ _ _ _ _ _ _ (omega (arith, more at.After-block_of m C.ground, c.if-ground-t.false)) (found at.After-block_of m C.ground _ c.in-Some.is) L.is L.head
-    (c.into.ensures.0 ∙ L.furlongs) (c.walked_to.ensures ∙ sym (walked_same C.ground _ _ _ _ (omega (arith, L)) (within at.After-block_of m C.ground).0))
+    record {
+      by_chart = chart_to c.args.chart.now _ _ _ _ _ (omega (arith, c.if-ground-t.false, (standing c.args.chart.now.ground.keeps).places))
+          (sym c.in-Some.is ∙ c.block_of.ensures.block _ (sym c.code-code.ensures)) c.stage_of-i.ensures (c.walked_to.ensures ∙ ap (walked_to _ _ _ _) c.into.ensures.0);
+      mapped = λ m C.
+          let L = stage at.After-stage_of-i m C in
+          refine_to _ _ _ _ _ _ _ _ (omega (arith, more at.After-block_of m C.ground, c.if-ground-t.false)) (found at.After-block_of m C.ground _ c.in-Some.is) L.is L.head
+          (c.into.ensures.0 ∙ L.furlongs) (c.walked_to.ensures ∙ sym (walked_same C.ground _ _ _ _ (omega (arith, L)) (within at.After-block_of m C.ground).0));
+    }
 
 pub returns-in-None : goal.returns-in-None
-returns-in-None c m C =
+returns-in-None c =
     let at = goal.at.returns-in-None c in
-    refine_none _ _ _ (omega (arith, more at.After-block_of m C.ground, c.if-ground-t.false)) (found at.After-block_of m C.ground _ c.in-None.is)
+    record {
+      by_chart = chart_none c.args.chart.now _ _ (omega (arith, c.if-ground-t.false, (standing c.args.chart.now.ground.keeps).places)) (sym c.in-None.is ∙ c.block_of.ensures.block _ (sym c.code-code.ensures));
+      mapped = λ m C. refine_none _ _ _ (omega (arith, more at.After-block_of m C.ground, c.if-ground-t.false)) (found at.After-block_of m C.ground _ c.in-None.is);
+    }
