@@ -25,7 +25,7 @@ use Rattle.paper.proofs.Due.{verdict_pair_due, verdict_15}
 use Rattle.truth.proofs.Scans.{every_not, check_taken}
 use Rattle.truth.specs.declared.pairs.Fault as code
 use Rattle.truth.specs.Table.{used, all_used}
-use Rattle.truth.specs.Faults.{Fault, Looked, found_by, number_of_check}
+use Rattle.truth.specs.Faults.{Fault, Looked, none_below, found_by, number_of_check}
 use Rattle.truth.proofs.Marking.{Marks}
 
 -- number is due for u and some v below k, and nothing for u and a place before v
@@ -125,19 +125,26 @@ module _ {m : Map} (L : LaidOut m) where
         go true e = sym (by-fault (ltb-true _ _ e))
         go false e = sym (by-marks (ltb-false _ _ e) (all_used m.blocks l) refl)
 
--- the number, case by case: of a fault that was found, of marks of every block, of marks that lack one
+-- the number, test by test
+module _ (places blocks : ℕ) (l : List ℕ) (f : Fault) where
+  pub number_fault : f.place < places → f.number ≡ number_of_check places blocks l f
+  unfolding number_of_check
+  number_fault h = rw (lt-ltb f.place places h, number_of_check)
+
+  pub number_marks : places ≤ f.place → (t : Bool) → t ≡ all_used blocks l → due t 15 ≡ number_of_check places blocks l f
+  unfolding number_of_check
+  number_marks h t e = rw (le-ltb f.place places h, number_of_check) (ap (λ (x : Bool). due x 15) e)
+
+-- the same case by case: of a fault that was found, of marks of every block, of marks that lack one
 module _ {N : Type 0} (value : N → ℕ) (places blocks : ℕ) (l : List ℕ) (fault : Option (code.Fault N)) where
   pub number_found : (f : code.Fault N) → fault ≡ Some f → IfSome fault (λ f. f.place < places) → value f.refusal ≡ number_of_check places blocks l (found_by value places fault)
-  unfolding number_of_check
-  number_found f e h = let p : f.place < places = rw e at h in rw e (rw (lt-ltb f.place places p, number_of_check))
+  number_found f e h = let p : f.place < places = rw e at h in rw e (number_fault places blocks l (found_by value places (Some f)) p)
 
   pub number_marked : fault ≡ None → all_used blocks l ≡ true → 0 ≡ number_of_check places blocks l (found_by value places fault)
-  unfolding number_of_check
-  number_marked e t = rw (e, le-ltb places places (omega arith), t, number_of_check)
+  number_marked e t = rw e (number_marks places blocks l (none_below places) (omega arith) true (sym t))
 
   pub number_useless : fault ≡ None → all_used blocks l ≡ false → 15 ≡ number_of_check places blocks l (found_by value places fault)
-  unfolding number_of_check
-  number_useless e t = rw (e, le-ltb places places (omega arith), t, number_of_check)
+  number_useless e t = rw e (number_marks places blocks l (none_below places) (omega arith) false (sym t))
 
 -- the clause of `final_number` at numbers: it gives what is due by any place and number, a fault's where the place is below `places`, and the first blocks' marks
 module _ (places blocks place number : ℕ) (marks : List ℕ) (fault : Option (code.Fault ℕ)) (found : place < places → fault ≡ Some (record { place = place; refusal = number })) (none : places ≤ place → fault ≡ None) where

@@ -31,7 +31,7 @@ pub record OnSurvey (s : Survey) (m : Map) : Type 0 where
   pub charted : OnChart s.chart m
   pub roads : OnRoads s.roads m
 
--- some map is the survey's: what is said of its columns is said of such a map, and without one would say nothing
+-- some map is the survey's: that a column holds road distances is said of such a map, and without one would say nothing
 pub record SomeSurvey (s : Survey) : Type 0 where
   pub map : Map
   pub on : OnSurvey s map

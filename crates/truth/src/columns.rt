@@ -7,7 +7,7 @@ ghost use Rattle.paper.specs.Sheet.{map_of};
 ghost use Rattle.truth.specs.Table.{CheckedIn};
 ghost use Rattle.truth.specs.Faults.{found_by, found_below, number_of_check};
 ghost use Rattle.truth.specs.Roads.{OnRoads, OnSurvey, SomeSurvey, Reached};
-ghost use Rattle.truth.specs.Columns.{ColumnIs};
+ghost use Rattle.truth.specs.Columns.{ColumnIs, ColumnByChart};
 
 use crate::known::Survey;
 use crate::pairs::{Fault, column_fault};
@@ -26,8 +26,28 @@ fn is_reached(roads: &Roads, v: usize, column: &mut [u32]) -> bool
     !column[..roads.places].contains(&FAR)
 }
 
-// One column of the table, on any map that was surveyed: the road distances to v, and the first faulty pair with a place below `below`; or 11.
+// One column of the table, on any map that was surveyed: the road distances to v, and the first faulty pair with a place below `below`; or 11. Where no map
+// was surveyed, the column is as `towards` leaves it, and the pairs follow from it by the chart.
 pub fn judge_column(
+    survey: &Survey,
+    v: usize,
+    column: &mut [u32],
+    marks: &mut [u8],
+    below: usize,
+) -> Result<Option<Fault>, Refusal>
+    requires { (below ≤ survey.now.roads.places) × (v < survey.now.roads.places) × (survey.now.roads.places ≤ length column.old) × (survey.now.chart.ground.counts.blocks ≤ length marks.old) }
+    ensures within { IfOk result (λ found. IfSome found (λ f. f.place < below)) }
+    ensures column { (m : Map) → OnSurvey survey.now m → ColumnIs m (map_of survey.now.chart.ground.bytes.now) survey.now.roads.places v below marks.old column.new marks.new result }
+    ensures by_chart { ColumnByChart survey.now.chart v below marks.old column.new marks.new result }
+{
+    if !is_reached(&survey.roads, v, column) {
+        return Err(Refusal::CutOff);
+    }
+    Ok(column_fault(&survey.chart, column, v, marks, below))
+}
+
+// The same of a survey that some map has. It promises no more, but asks for the map without which the column and 11 are open: so what it gives is pinned.
+pub fn judge_column_of_map(
     survey: &Survey,
     v: usize,
     column: &mut [u32],
@@ -38,11 +58,9 @@ pub fn judge_column(
     requires below_le_places { (below ≤ survey.now.roads.places) × (v < survey.now.roads.places) × (survey.now.roads.places ≤ length column.old) × (survey.now.chart.ground.counts.blocks ≤ length marks.old) }
     ensures within { IfOk result (λ found. IfSome found (λ f. f.place < below)) }
     ensures column { (m : Map) → OnSurvey survey.now m → ColumnIs m (map_of survey.now.chart.ground.bytes.now) survey.now.roads.places v below marks.old column.new marks.new result }
+    ensures by_chart { ColumnByChart survey.now.chart v below marks.old column.new marks.new result }
 {
-    if !is_reached(&survey.roads, v, column) {
-        return Err(Refusal::CutOff);
-    }
-    Ok(column_fault(&survey.chart, column, v, marks, below))
+    judge_column(survey, v, column, marks, below)
 }
 
 // Where the pairs that are still looked for end: at the first faulty one, or past all places.
@@ -70,9 +88,9 @@ pub fn final_number<N: From<Refusal> + Drop>(marks: &[u8], fault: Option<Fault<N
     Ok(())
 }
 
-// Fills the table a column at a time, on any map that was surveyed. It ends at a place that some other cannot reach (11).
+// Fills the table a column at a time, on any map that was surveyed. It ends at a place that some other cannot reach (11). Where no
+// map was surveyed, nothing is said.
 pub fn columns<U, T: Table<U>>(survey: &Survey, table: &mut [U]) -> Result<(), Refusal>
-    requires surveyed { SomeSurvey survey.now }
     requires room { survey.now.roads.places * survey.now.roads.places ≤ length (T.held table.old) }
     requires whole { table.old ≡ T.written (T.held table.old) table.old }
     ensures { (m : Map) → OnSurvey survey.now m → CheckedIn T.held T.written 0 m table.old (number result) table.new }
@@ -93,4 +111,14 @@ pub fn columns<U, T: Table<U>>(survey: &Survey, table: &mut [U]) -> Result<(), R
         T::store_column(table, places, v, &column);
     }
     final_number(&marks[..survey.chart.ground.counts.blocks], fault)
+}
+
+// The same of a survey that some map has. It promises no more, but asks for the map without which all is open: so what it gives is pinned.
+pub fn columns_of_map<U, T: Table<U>>(survey: &Survey, table: &mut [U]) -> Result<(), Refusal>
+    requires surveyed { SomeSurvey survey.now }
+    requires room { survey.now.roads.places * survey.now.roads.places ≤ length (T.held table.old) }
+    requires whole { table.old ≡ T.written (T.held table.old) table.old }
+    ensures { (m : Map) → OnSurvey survey.now m → CheckedIn T.held T.written 0 m table.old (number result) table.new }
+{
+    columns::<U, T>(survey, table)
 }

@@ -6,6 +6,8 @@ mod known;
 pub mod pairs;
 mod slices;
 pub mod table;
+#[cfg(test)]
+mod tests;
 
 ghost use Rattle.std.specs.Prelude.{◌≡◌, ◌↔◌, ◌*◌, ◌≤◌, length, take};
 ghost use Rattle.paper.specs.Refusal.{number};
@@ -15,7 +17,7 @@ ghost use Rattle.sheet.specs.Book.{Roomy};
 ghost use Rattle.truth.specs.Roads.{Surveyed};
 ghost use Rattle.truth.specs.Table.{CheckedIn};
 
-use crate::columns::columns;
+use crate::columns::columns_of_map;
 use crate::table::{Table, Words};
 pub use known::Survey;
 use paper::Refusal;
@@ -83,7 +85,7 @@ fn fill<U, T: Table<U>>(map: &Mapped, table: &mut [U]) -> Result<(), Refusal>
             places: map.counts.places,
         },
     };
-    columns::<U, T>(&surveyed, table)
+    columns_of_map::<U, T>(&surveyed, table)
 }
 
 // The check of a map that is read off the bytes, in whatever its table stands: 10, or what the roads and the blocks come to.

@@ -8,10 +8,10 @@ ghost use Rattle.paper.specs.Sheet.{map_of};
 ghost use Rattle.paper.specs.Cell.{cell};
 ghost use Rattle.paper.specs.Crow.{crow as crow_of};
 ghost use Rattle.paper.specs.Verdict.{fault_by, fault as fault_of};
-ghost use Rattle.sheet.specs.Charts.{OnChart, SomeMap};
+ghost use Rattle.sheet.specs.Charts.{OnChart};
 ghost use Rattle.truth.specs.Table.{marked, marked_below};
 ghost use Rattle.truth.specs.Faults.{Looked, none_below, found_below};
-ghost use Rattle.truth.specs.Pairs.{by_column, Own, colour_true, ratios_true};
+ghost use Rattle.truth.specs.Pairs.{by_column, Own, colour_true, ratios_true, colour_by_chart, due_by_chart, fault_by_chart};
 
 use crate::slices::USED;
 use paper::sizes::RATIO_UNIT;
@@ -58,11 +58,12 @@ fn ratios_hold(ground: &Ground, b: usize, u: usize, v: usize, d: Network) -> boo
     is_high(block.high, c, d)
 }
 
-// Whether the stage that the block b names begins a shortest road from u, on any map that has the chart.
+// Whether the stage that the block b names begins a shortest road from u, by the chart and on any map that has it. Here and below what is said by the chart
+// holds of one that no map has too, and so each result is pinned.
 fn colour_holds(chart: &Chart, column: &[u32], u: usize, b: usize) -> bool
-    requires charted { SomeMap chart.now }
-    requires u_lt_places { (u < chart.now.ground.counts.places) × (chart.now.ground.counts.places ≤ length column.now) × (Own (map_of chart.now.ground.bytes.now) u b) }
-    ensures { (m : Map) → OnChart chart.now m → result ≡ colour_true m column.now u b }
+    requires { (u < chart.now.ground.counts.places) × (chart.now.ground.counts.places ≤ length column.now) × (Own (map_of chart.now.ground.bytes.now) u b) }
+    ensures by_chart { result ≡ colour_by_chart chart.now column.now u b }
+    ensures mapped { (m : Map) → OnChart chart.now m → result ≡ colour_true m column.now u b }
 {
     let i = stage_of(&chart.ground, chart.first, u, b);
     let head = chart.heads[i] as usize;
@@ -72,9 +73,9 @@ fn colour_holds(chart: &Chart, column: &[u32], u: usize, b: usize) -> bool
 
 // What is due for u and v, where the block b of u covers v: 13, 14, or nothing.
 fn block_fault(chart: &Chart, column: &[u32], u: usize, v: usize, b: usize) -> Result<(), Refusal>
-    requires charted { SomeMap chart.now }
-    requires u_lt_places { (u < chart.now.ground.counts.places) × (v < chart.now.ground.counts.places) × (chart.now.ground.counts.places ≤ length column.now) × (Own (map_of chart.now.ground.bytes.now) u b) }
-    ensures { (m : Map) → OnChart chart.now m → number result ≡ fault_by m (by_column column.now) u v (some b) }
+    requires { (u < chart.now.ground.counts.places) × (v < chart.now.ground.counts.places) × (chart.now.ground.counts.places ≤ length column.now) × (Own (map_of chart.now.ground.bytes.now) u b) }
+    ensures by_chart { number result ≡ due_by_chart chart.now column.now u v (some b) }
+    ensures mapped { (m : Map) → OnChart chart.now m → number result ≡ fault_by m (by_column column.now) u v (some b) }
 {
     if !colour_holds(chart, column, u, b) {
         return Err(Refusal::WrongColour);
@@ -94,8 +95,8 @@ fn pair_fault(
     code: u32,
     marks: &mut [u8],
 ) -> Result<(), Refusal>
-    requires charted { SomeMap chart.now }
-    requires u_lt_places { (u < chart.now.ground.counts.places) × (v < chart.now.ground.counts.places) × (chart.now.ground.counts.places ≤ length column.now) × (chart.now.ground.counts.blocks ≤ length marks.old) × (code ≡ cell (map_of chart.now.ground.bytes.now) v) }
+    requires { (u < chart.now.ground.counts.places) × (v < chart.now.ground.counts.places) × (chart.now.ground.counts.places ≤ length column.now) × (chart.now.ground.counts.blocks ≤ length marks.old) × (code ≡ cell (map_of chart.now.ground.bytes.now) v) }
+    ensures by_chart { number result ≡ fault_by_chart chart.now column.now u v }
     ensures value { (m : Map) → OnChart chart.now m → number result ≡ fault_of m (by_column column.now) u v }
     ensures marks_after { marks.new ≡ marked (map_of chart.now.ground.bytes.now) u v marks.old }
 {
@@ -119,8 +120,8 @@ pub fn column_fault(
     marks: &mut [u8],
     below: usize,
 ) -> Option<Fault>
-    requires charted { SomeMap chart.now }
-    requires below_le_places { (below ≤ chart.now.ground.counts.places) × (v < chart.now.ground.counts.places) × (chart.now.ground.counts.places ≤ length column.now) × (chart.now.ground.counts.blocks ≤ length marks.old) }
+    requires { (below ≤ chart.now.ground.counts.places) × (v < chart.now.ground.counts.places) × (chart.now.ground.counts.places ≤ length column.now) × (chart.now.ground.counts.blocks ≤ length marks.old) }
+    ensures by_chart { Looked (λ u. fault_by_chart chart.now column.now u v) (none_below below) (found_below below result) }
     ensures looked { (m : Map) → OnChart chart.now m → Looked (λ u. fault_of m (by_column column.now) u v) (none_below below) (found_below below result) }
     ensures within { IfSome result (λ f. f.place < below) }
     ensures marks_after { marks.new ≡ marked_below (map_of chart.now.ground.bytes.now) v (min ((found_below below result).place + 1) below) marks.old }

@@ -14,10 +14,7 @@ loop-v-init g c = filling_in_none _ _ _ _ c.requires.whole
 pub judge_column-requires : goal.judge_column-requires
 judge_column-requires g c =
     let R = filling_in_room _ _ _ c.requires.room c.loop-v.invariant in
-    record {
-      surveyed = c.requires.surveyed;
-      below_le_places = (omega (arith, c.below-end.ensures, place_in (λ u. 0) _ _ c.loop-v.invariant.filling.fault_in), c.loop-v-test.true, R.column_room, R.marks_room);
-    }
+    (omega (arith, c.below-end.ensures, place_in (λ u. 0) _ _ c.loop-v.invariant.filling.fault_in), c.loop-v-test.true, R.column_room, R.marks_room)
 
 pub clear-requires : goal.clear-requires
 clear-requires g c = filling_in_long _ _ _ c.requires.room c.loop-v.invariant g.met.T.Table.kept
