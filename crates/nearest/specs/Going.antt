@@ -12,6 +12,7 @@ use Rattle.paper.specs.Trail.{Trail, start}
 use Rattle.paper.specs.Listing.{Slot, Line, State, at, leader, clear, retired, refined, listed, walked_on, step, starts}
 use Rattle.paper.specs.Reply.{line_out, lines_out}
 use Rattle.paper.specs.Bounds.{Sane}
+pub use Rattle.sheet.specs.Charts.{SomeMap}
 use Rattle.nearest.specs.Working.{tree_at, key, Stored, Shown, Beyond}
 use Rattle.quadtree.specs.Walks.{trail_of}
 use Rattle.nearest.specs.declared.tree.Lead.{Lead}

@@ -32,11 +32,11 @@ impl<'a> Errand<'a> {
     ghost use Rattle.paper.specs.Trail.{start as start_of, refine as refine_of};
     ghost use Rattle.paper.specs.Bounds.{Sane};
     ghost use Rattle.paper.specs.Listing.{Slot, State, line_of, begin, run, enough, listing};
-    ghost use Rattle.sheet.specs.Charts.{OnChart, SomeMap};
+    ghost use Rattle.sheet.specs.Charts.{OnChart};
     ghost use Rattle.quadtree.specs.Walks.{trail_of};
     ghost use Rattle.nearest.specs.Working.{Shown, Beyond};
     ghost use Rattle.nearest.specs.Errands.{offices, places, ground_of, asked};
-    ghost use Rattle.nearest.specs.Going.{Wrote, Fresh, Waiting, Begun, OneStarted, AllStarted, Stepped, Came};
+    ghost use Rattle.nearest.specs.Going.{Wrote, SomeMap, Fresh, Waiting, Begun, OneStarted, AllStarted, Stepped, Came};
 
     // The place at which office i of the list stands.
     fn stand(&self, i: usize) -> usize
